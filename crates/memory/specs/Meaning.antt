@@ -36,6 +36,10 @@ is-opened extents opens d n = ltb n (extents d) && opens d n
 abbrev pub meaning : (Device → ℕ) → (Device → ℕ → ℕ) → (Device → ℕ → Bool) → Meaning
 meaning extents values opens = record { extent = extents; value = values; opened = is-opened extents opens }
 
+-- the meaning of a memory that is only read: no point is open
+abbrev pub closed-meaning : (Device → ℕ) → (Device → ℕ → ℕ) → Meaning
+closed-meaning extents values = record { extent = extents; value = values; opened = λ d n. false }
+
 -- the value inside, nothing outside
 abbrev pub told : (Device → ℕ) → (Device → ℕ → ℕ) → Device → ℕ → Option ℕ
 told extents values d n = cond (ltb n (extents d)) (Some (values d n)) None

@@ -2,3 +2,5 @@ pub mod Places
 pub mod Numbers
 pub mod RoundTrip
 pub mod Turns
+pub mod Rest
+pub mod Runs

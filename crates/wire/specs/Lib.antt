@@ -1,2 +1,4 @@
 pub mod Numbers
 pub mod Fields
+pub mod Series
+pub mod Points

@@ -16,7 +16,7 @@ use Rattle.wire.specs.declared.code.FieldFault.{FieldFault}
 use Rattle.wire.specs.declared.code.FieldFault.the-variants.{Missing, Digit}
 
 -- what comes next where the first part went well
-abbrev pub then : {X Y : Type 0} → Result X FieldFault → (X → Result Y FieldFault) → Result Y FieldFault
+abbrev pub then : {X Y E : Type 0} → Result X E → (X → Result Y E) → Result Y E
 then (Ok x) f = f x
 then (Err e) f = Err e
 

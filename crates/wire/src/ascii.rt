@@ -125,4 +125,19 @@ pub impl WireCode for Ascii as AsciiCode {
         write_device_number(out, at, device, number);
         Self::field_size(4)
     }
+
+    fn bits_size(points: usize) -> usize {
+        points
+    }
+
+    fn write_two_bits(out: &mut [u8], at: usize, first: u16, second: u16) -> usize {
+        out[at] = hex_char(first as u8);
+        out[at + 1] = hex_char(second as u8);
+        2
+    }
+
+    fn write_last_bit(out: &mut [u8], at: usize, value: u16) -> usize {
+        out[at] = hex_char(value as u8);
+        1
+    }
 }

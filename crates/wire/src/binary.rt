@@ -116,4 +116,18 @@ pub impl WireCode for Binary as BinaryCode {
         write_code(out, at, device);
         Self::field_size(4)
     }
+
+    fn bits_size(points: usize) -> usize {
+        (points + 1) / 2
+    }
+
+    fn write_two_bits(out: &mut [u8], at: usize, first: u16, second: u16) -> usize {
+        out[at] = (16 * first + second) as u8;
+        1
+    }
+
+    fn write_last_bit(out: &mut [u8], at: usize, value: u16) -> usize {
+        out[at] = (16 * value) as u8;
+        1
+    }
 }

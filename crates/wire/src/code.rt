@@ -1,12 +1,14 @@
 // What a wire code is: how numbers and device fields are sent and read.
 ghost use mathlib.Core.Path.{_≡_};
 ghost use Prim.Native.Nat.{ℕ, _+_, _*_, _^_, _<_, _≤_};
+ghost use mathlib.Core.List.{[], _∷_};
 ghost use lib.ListN.{length, drop};
 ghost use lib.Seq.{sets};
 ghost use Rattle.std.specs.Vec.{made};
 ghost use Rattle.std.specs.declared.result.Result.the-variants.{Ok};
 ghost use Rattle.wire.specs.declared.code.Code.{Code};
 ghost use Rattle.wire.specs.Numbers.{per-byte, number-in, encode};
+ghost use Rattle.wire.specs.Points.{bits-bytes, bits-size};
 ghost use Rattle.wire.specs.Fields.{device-in, encode-device, number-limit};
 use device::Device;
 
@@ -63,4 +65,21 @@ pub trait WireCode {
         ensures used { λ r. ⌜ r ≡ 4 * per-byte which ⌝ }
         ensures written { λ _. ⌜ now (out .exit) ≡ sets (now (out .entry)) at (encode-device which device number) ⌝ }
         ensures back { λ _. ⌜ (number < number-limit which device → device-in which (drop at (now (out .exit))) ≡ Ok (device, number, 4 * per-byte which)) ⌝ };
+
+    // How many wire bytes so many points in bits take.
+    fn bits_size(points: usize) -> usize
+        requires { ⌜ points < 65536 ⌝ }
+        ensures { λ r. ⌜ r ≡ bits-size which points ⌝ };
+
+    // Writes two points in bits from `at` on.
+    fn write_two_bits(out: &mut [u8], at: usize, first: u16, second: u16) -> usize
+        requires { ⌜ first < 2 ⌝ ∗ ⌜ second < 2 ⌝ ∗ ⌜ at + bits-size which 2 ≤ length (now out) ⌝ }
+        ensures used { λ r. ⌜ r ≡ bits-size which 2 ⌝ }
+        ensures written { λ _. ⌜ now (out .exit) ≡ sets (now (out .entry)) at (bits-bytes which (first ∷ second ∷ [])) ⌝ };
+
+    // Writes the one point in bits that an odd number of them leaves.
+    fn write_last_bit(out: &mut [u8], at: usize, value: u16) -> usize
+        requires { ⌜ value < 2 ⌝ ∗ ⌜ at + bits-size which 1 ≤ length (now out) ⌝ }
+        ensures used { λ r. ⌜ r ≡ bits-size which 1 ⌝ }
+        ensures written { λ _. ⌜ now (out .exit) ≡ sets (now (out .entry)) at (bits-bytes which (value ∷ [])) ⌝ };
 }

@@ -3,6 +3,8 @@ mod ascii;
 mod binary;
 mod code;
 mod digits;
+mod series;
+mod standing;
 
 pub use ascii::Ascii;
 pub use ascii::AsciiCode;
@@ -18,3 +20,9 @@ pub use code::WireCode;
 pub use digits::digit;
 pub use digits::hex_char;
 pub use digits::read_digit;
+pub use series::Number;
+pub use series::NumberDebug;
+pub use series::NumberPartialEq;
+pub use series::write_series;
+pub use standing::device_at;
+pub use standing::number_at;
