@@ -1,2 +1,4 @@
 pub mod Refusals
 pub mod Meaning
+pub mod Layout
+pub mod Kept

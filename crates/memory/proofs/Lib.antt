@@ -1,0 +1,5 @@
+pub mod Starts
+pub mod Smallness
+pub mod Bitwise
+pub mod Units
+pub mod Points
