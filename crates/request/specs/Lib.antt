@@ -2,3 +2,4 @@ pub mod Fields
 pub mod Walks
 pub mod Requests
 pub mod Readings
+pub mod Fine

@@ -6,6 +6,7 @@ ghost use Rattle.std.specs.Vec.{made};
 ghost use Rattle.memory.specs.Meaning.{closed-meaning};
 ghost use Rattle.wire.specs.Numbers.{per-byte};
 ghost use Rattle.request.specs.Requests.{points, within, Read-bits, Read-words, judged};
+ghost use Rattle.request.specs.Fine.{Fine};
 ghost use Rattle.request.specs.Readings.{said, said-by, ends, request-in};
 use crate::fields;
 use crate::types::Request;
@@ -40,7 +41,8 @@ fn is_within<M: ReadableMemory>(memory: &M, device: Device, number: u32, points:
 
 // The end of the data: bytes that are left are a fault at the first of them.
 fn ended(frame: &[u8], at: usize, request: Request) -> Result<Request, Fault>
-    ensures { λ r. ⌜ said r ≡ ends (now (frame .entry)) at (said-by request) ⌝ }
+    ensures value { λ r. ⌜ said r ≡ ends (now (frame .entry)) at (said-by request) ⌝ }
+    ensures same { λ r. ⌜ made r (λ q. q ≡ request) ⌝ }
 {
     if at < frame.len() {
         return Err(Fault {
@@ -58,7 +60,8 @@ fn read_bits<C: WireCode, M: ReadableMemory>(
     at: usize,
 ) -> Result<Request, Fault>
     requires { ⌜ at ≤ length (now frame) ⌝ }
-    ensures { λ r. ⌜ said r ≡ judged (C·WireCode .which) (closed-meaning (M·ReadableMemory .extents (now (memory .entry))) (M·ReadableMemory .values (now (memory .entry)))) Read-bits (now (frame .entry)) at ⌝ }
+    ensures value { λ r. ⌜ said r ≡ judged (C·WireCode .which) (closed-meaning (M·ReadableMemory .extents (now (memory .entry))) (M·ReadableMemory .values (now (memory .entry)))) Read-bits (now (frame .entry)) at ⌝ }
+    ensures fine { λ r. ⌜ made r Fine ⌝ }
 {
     let (device, number, used) = fields::device::<C>(frame, at)?;
     if device.kind() != Kind::Bit {
@@ -99,7 +102,8 @@ fn read_words<C: WireCode, M: ReadableMemory>(
     at: usize,
 ) -> Result<Request, Fault>
     requires { ⌜ at ≤ length (now frame) ⌝ }
-    ensures { λ r. ⌜ said r ≡ judged (C·WireCode .which) (closed-meaning (M·ReadableMemory .extents (now (memory .entry))) (M·ReadableMemory .values (now (memory .entry)))) Read-words (now (frame .entry)) at ⌝ }
+    ensures value { λ r. ⌜ said r ≡ judged (C·WireCode .which) (closed-meaning (M·ReadableMemory .extents (now (memory .entry))) (M·ReadableMemory .values (now (memory .entry)))) Read-words (now (frame .entry)) at ⌝ }
+    ensures fine { λ r. ⌜ made r Fine ⌝ }
 {
     let (device, number, used) = fields::device::<C>(frame, at)?;
     let points_at = at + used;
@@ -140,7 +144,8 @@ pub fn read_request<C: WireCode, M: ReadableMemory>(
     write_flag: bool,
 ) -> Result<Request, Fault>
     requires { ⌜ header .«data_at» ≤ length (now frame) ⌝ }
-    ensures { λ r. ⌜ said r ≡ request-in (C·WireCode .which) (closed-meaning (M·ReadableMemory .extents (now (memory .entry))) (M·ReadableMemory .values (now (memory .entry)))) «write_flag» header (now (frame .entry)) ⌝ }
+    ensures value { λ r. ⌜ said r ≡ request-in (C·WireCode .which) (closed-meaning (M·ReadableMemory .extents (now (memory .entry))) (M·ReadableMemory .values (now (memory .entry)))) «write_flag» header (now (frame .entry)) ⌝ }
+    ensures fine { λ r. ⌜ made r Fine ⌝ }
 {
     let at = header.data_at;
     match (header.command, header.subcommand) {

@@ -4,7 +4,7 @@ use mathlib.Core.List.{List, [], _∷_, _++_}
 use Prim.Native.Nat.{ℕ, zero, suc, _+_, _*_, _<_, _≤_}
 use native.Mathlib.Nat.{add-mul}
 use native.Mathlib.Omega.{arith}
-use lib.ListN.{length, drop, getD}
+use lib.ListN.{length, drop, getD, length-append}
 use lib.Seq.{sets}
 use Rattle.std.proofs.shelf.Lists.{drop-more, drop-all}
 use Rattle.wire.specs.declared.code.Code.{Code}
@@ -38,3 +38,11 @@ module _ (code : Code) (ns : List Number) (i : ℕ) (below : i < length ns) wher
 
 pub series-ended : (ns : List Number) (i : ℕ) → length ns ≤ i → drop i ns ≡ []
 series-ended ns i h = drop-all i ns h
+
+-- how long a series is
+pub length-series : (code : Code) (ns : List Number) → length (series-bytes code ns) ≡ series-size ns * per-byte code
+length-series code [] = omega arith
+length-series code (n ∷ ns) =
+    length-append (encode code (n .size) (n .value)) (series-bytes code ns)
+    ∙ (λ i. length-encode code (n .size) (n .value) i + length-series code ns i)
+    ∙ sym (add-mul (n .size) (series-size ns) (per-byte code))

@@ -19,3 +19,8 @@ series-size (n ∷ ns) = n .size + series-size ns
 abbrev pub series-bytes : Code → List Number → List ℕ
 series-bytes code [] = []
 series-bytes code (n ∷ ns) = encode code (n .size) (n .value) ++ series-bytes code ns
+
+-- what is sent for values that all have `size` bytes
+abbrev pub values-bytes : Code → ℕ → List ℕ → List ℕ
+values-bytes code size [] = []
+values-bytes code size (v ∷ vs) = encode code size v ++ values-bytes code size vs

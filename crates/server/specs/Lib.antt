@@ -1,0 +1,5 @@
+pub mod Counts
+pub mod Points
+pub mod Registered
+pub mod Answers
+pub mod Serves

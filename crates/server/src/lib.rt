@@ -1,0 +1,10 @@
+// The server: takes one request frame at a time, carries it out on a device memory and writes one reply frame.
+mod points;
+mod registration;
+mod serve;
+mod settings;
+mod showing;
+
+pub use registration::Access;
+pub use registration::Registration;
+pub use settings::Settings;

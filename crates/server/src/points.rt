@@ -1,0 +1,62 @@
+// Points read out of any readable memory, as bits and as words.
+ghost use mathlib.Core.Path.{_≡_};
+ghost use Prim.Native.Nat.{ℕ, _+_, _-_, _*_, _^_, _<_, _≤_};
+ghost use Rattle.device.specs.Devices.{kindOf};
+ghost use Rattle.device.specs.declared.types.Kind.the-variants.{Bit};
+ghost use Rattle.request.specs.Requests.{points};
+ghost use Rattle.server.specs.Points.{packed, word};
+use device::Device;
+use device::Kind;
+use memory::ReadableMemory;
+
+// The value of a point; 0 outside.
+pub(crate) fn value_at<M: ReadableMemory>(memory: &M, device: Device, number: u32) -> u16
+    ensures { λ r. ⌜ r ≡ M·ReadableMemory .values (now (memory .entry)) device number ⌝ }
+{
+    match memory.read(device, number) {
+        Some(value) => value,
+        None => 0,
+    }
+}
+
+// The number with one more bit below it.
+fn with_bit(word: u16, bit: u16) -> u16
+    requires { ⌜ word < 2 ^ 15 ⌝ ∗ ⌜ bit < 2 ⌝ }
+    ensures { λ r. ⌜ r ≡ bit + 2 * word ⌝ }
+{
+    2 * word + bit
+}
+
+// Sixteen bit points as one word, the lowest number in bit 0.
+fn sixteen<M: ReadableMemory>(memory: &M, device: Device, number: u32) -> u16
+    requires { ⌜ kindOf device ≡ Bit ⌝ ∗ ⌜ number < 2 ^ 31 ⌝ }
+    ensures { λ r. ⌜ r ≡ packed (M·ReadableMemory .values (now (memory .entry))) device number 16 ⌝ }
+{
+    let mut word = 0;
+    for i in (0..16u32).rev() {
+        word = with_bit(word, value_at(memory, device, number + i));
+    }
+    word
+}
+
+// The word that begins at a point.
+pub(crate) fn word_at<M: ReadableMemory>(memory: &M, device: Device, number: u32) -> u16
+    requires { ⌜ number < 2 ^ 31 ⌝ }
+    ensures { λ r. ⌜ r ≡ word (M·ReadableMemory .values (now (memory .entry))) device number ⌝ }
+{
+    match device.kind() {
+        Kind::Bit => sixteen(memory, device, number),
+        Kind::Word => value_at(memory, device, number),
+    }
+}
+
+// How many points a word of the device has.
+pub(crate) fn word_points(device: Device) -> u32
+    ensures value { λ r. ⌜ r ≡ points (kindOf device) 1 ⌝ }
+    ensures few { λ r. ⌜ r ≤ 16 ⌝ }
+{
+    match device.kind() {
+        Kind::Bit => 16,
+        Kind::Word => 1,
+    }
+}
