@@ -8,10 +8,11 @@ use lib.Arith.{mod-mul}
 use lib.Dec.{lit<}
 use lib.Pow.{pow-add}
 use Rattle.std.proofs.shelf.Ways.{tells}
+use Rattle.std.specs.declared.option.Option.the-variants.{Some}
 use Rattle.std.specs.declared.result.Result.the-variants.{Ok}
 use Rattle.device.specs.declared.types.Notation.{Notation}
 use Rattle.device.specs.declared.types.Notation.the-variants.{Decimal, Hexadecimal}
-use Rattle.wire.specs.Numbers.{base, hex-char, digit-of}
+use Rattle.wire.specs.Numbers.{base, hex-char, hex-value, digit-of}
 
 pub base-pos : (t : Notation) → 0 < base t
 base-pos Decimal = lit< tt
@@ -27,9 +28,16 @@ pub digit-back : (t : Notation) (place d : ℕ) → d < base t → digit-of t pl
 digit-back Decimal place d h = grind (arith, tells)
 digit-back Hexadecimal place d h = grind (arith, tells)
 
+-- a hexadecimal digit that was read is below 16, and one that was written reads as itself
+pub hex-below : (c d : ℕ) → hex-value c ≡ Some d → d < 16
+hex-below c d e = grind (arith, tells)
+
+pub hex-back : (d : ℕ) → d < 16 → hex-value (hex-char d) ≡ Some d
+hex-back d h = grind (arith, tells)
+
 -- a number with a digit more that was read is below the next power
-pub digit-more : (t : Notation) (place c d v k : ℕ) → digit-of t place c ≡ Ok d → v < 16 ^ k → v * base t + d < 16 ^ (k + 1)
-digit-more t place c d v k e h = go t (digit-below t place c d e)
+pub digit-more : (t : Notation) (place c d v k : ℕ) → Ok d ≡ digit-of t place c → v < 16 ^ k → v * base t + d < 16 ^ (k + 1)
+digit-more t place c d v k e h = go t (digit-below t place c d (sym e))
   where
     go : (n : Notation) → d < base n → v * base n + d < 16 ^ (k + 1)
     go Decimal g = rw (add-one k, pow-suc 16 k) (omega arith)

@@ -46,19 +46,19 @@ module _ (t : Notation) where
   digits-step bytes p n m acc e h = rw (e, add-one n, drop-more bytes p 0 h)
 
   -- a digit that was read leaves the digits behind it to the number with it
-  pub digits-turn : (bytes : List ℕ) (at i count acc d : ℕ) → i < count → at + count ≤ length bytes → digit-of t (at + i) (getD bytes (at + i) 0) ≡ Ok d
+  pub digits-turn : (bytes : List ℕ) (at i count acc d : ℕ) → i < count → at + count ≤ length bytes → Ok d ≡ digit-of t (at + i) (getD bytes (at + i) 0)
       → digits-run t (count - (i + 1)) (at + (i + 1)) (acc * base t + d) (drop (at + (i + 1)) bytes) ≡ digits-run t (count - i) (at + i) acc (drop (at + i) bytes)
   digits-turn bytes at i count acc d h fits e =
       let next : at + (i + 1) ≡ at + i + 1 = omega arith in
       let s = digits-step bytes (at + i) (count - (i + 1)) (count - i) acc (omega arith) (omega arith) in
-      rw next (sym (s ∙ ap (λ r. then r (λ x. digits-run t (count - (i + 1)) (at + i + 1) (acc * base t + x) (drop (at + i + 1) bytes))) e))
+      rw next (sym (s ∙ ap (λ r. then r (λ x. digits-run t (count - (i + 1)) (at + i + 1) (acc * base t + x) (drop (at + i + 1) bytes))) (sym e)))
 
   -- a bad digit is what comes of the whole
-  pub digits-stop : (bytes : List ℕ) (at i count acc : ℕ) (f : FieldFault) → i < count → at + count ≤ length bytes → digit-of t (at + i) (getD bytes (at + i) 0) ≡ Err f
+  pub digits-stop : (bytes : List ℕ) (at i count acc : ℕ) (f : FieldFault) → i < count → at + count ≤ length bytes → Err f ≡ digit-of t (at + i) (getD bytes (at + i) 0)
       → digits-run t (count - i) (at + i) acc (drop (at + i) bytes) ≡ Err f
   digits-stop bytes at i count acc f h fits e =
       let s = digits-step bytes (at + i) (count - (i + 1)) (count - i) acc (omega arith) (omega arith) in
-      s ∙ ap (λ r. then r (λ x. digits-run t (count - (i + 1)) (at + i + 1) (acc * base t + x) (drop (at + i + 1) bytes))) e
+      s ∙ ap (λ r. then r (λ x. digits-run t (count - (i + 1)) (at + i + 1) (acc * base t + x) (drop (at + i + 1) bytes))) (sym e)
 
   digit-put : (out : List ℕ) (p n m v : ℕ) → m ≡ n + 1
       → set (sets out (p + 1) (digit-chars t n v)) p (hex-char (v / base t ^ n % base t)) ≡ sets out p (digit-chars t m v)
