@@ -3,3 +3,5 @@ pub mod Smallness
 pub mod Bitwise
 pub mod Units
 pub mod Points
+pub mod Covered
+pub mod Under

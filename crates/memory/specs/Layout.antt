@@ -73,17 +73,25 @@ abbrev pub part-of : Kind → ℕ → ℕ → ℕ
 part-of Bit x n = bitAt x (n % 16)
 part-of Word x n = x
 
+-- what an image's point holds, by the bytes and its first: a word's low byte comes first, and a bit is 0 where its byte is
+abbrev pub byte-part : Kind → List ℕ → ℕ → ℕ
+byte-part Bit bs i = cond (eqb (getD bs i 0) 0) 0 1
+byte-part Word bs i = getD bs i 0 + 256 * getD bs (i + 1) 0
+
+-- the bytes once that point has the value
+abbrev pub with-bytes : Kind → List ℕ → ℕ → ℕ → List ℕ
+with-bytes Bit bs i v = set bs i v
+with-bytes Word bs i v = set (set bs i (v % 256)) (i + 1) (v / 256)
+
 -- what the point n with the first unit i holds
 abbrev pub point-in : Form → Kind → List ℕ → ℕ → ℕ → ℕ
 point-in Packed κ us i n = part-of κ (getD us i 0) n
-point-in Image Bit us i n = cond (eqb (getD us i 0) 0) 0 1
-point-in Image Word us i n = getD us i 0 + 256 * getD us (i + 1) 0
+point-in Image κ us i n = byte-part κ us i
 
 -- the units once that point has the value
 abbrev pub with-point : Form → Kind → List ℕ → ℕ → ℕ → ℕ → List ℕ
 with-point Packed κ us i n v = set us i (with-part κ (getD us i 0) n v)
-with-point Image Bit us i n v = set us i v
-with-point Image Word us i n v = set (set us i (v % 256)) (i + 1) (v / 256)
+with-point Image κ us i n v = with-bytes κ us i v
 
 -- a point's value; 0 where there is no point
 abbrev pub value-in : Form → List ℕ → List ℕ → Device → ℕ → ℕ

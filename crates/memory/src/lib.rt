@@ -1,16 +1,28 @@
 // Device memories: what they are, by two traits, and where they keep their points.
+mod image;
 mod layout;
 mod lending;
 mod lent;
+mod locked;
 mod packed;
 mod refusal;
 mod traits;
 
+pub use image::ByteImage;
+pub use image::ImageReadable;
+pub use image::ImageWritable;
+pub use image::bytes_needed;
+pub use image::image_fits;
 pub use layout::Form;
 pub use layout::extent_limit;
+pub use lending::set_image;
 pub use lending::set_packed;
 pub use lent::LentReadable;
 pub use lent::LentWritable;
+pub use locked::Locked;
+pub use locked::LockedReadable;
+pub use locked::LockedWritable;
+pub use locked::Range;
 pub use packed::PackedReadable;
 pub use packed::PackedTables;
 pub use packed::PackedWritable;
