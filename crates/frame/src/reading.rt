@@ -40,7 +40,7 @@ fn field_fault(present: usize, at: usize, fault: FieldFault) -> Fault
 fn number<C: WireCode>(frame: &[u8], at: usize, size: usize) -> Result<(u32, usize), Fault>
     requires { ⌜ size ≤ 4 ⌝ ∗ ⌜ at ≤ length (now frame) ⌝ }
     ensures value { λ r. ⌜ r ≡ number-at (C·WireCode .which) (now (frame .entry)) at size ⌝ }
-    ensures within { λ r. ⌜ made r (λ p. (at + p .1 ≤ length (now (frame .entry))) × (p .0 < 256 ^ size)) ⌝ }
+    ensures within { λ r. ⌜ made r (λ p. (at + p .1 ≤ length (now (frame .entry))) × (p .0 < 256 ^ size) × (p .1 ≡ size * per-byte (C·WireCode .which))) ⌝ }
 {
     match number_at::<C>(frame, at, size) {
         Ok(read) => Ok(read),
@@ -146,7 +146,7 @@ fn read_lead<C: WireCode>(frame: &[u8], form: Form) -> Result<Lead, Fault>
 fn frame_size<C: WireCode>(lead: Lead, present: usize) -> Result<usize, Fault>
     requires { ⌜ lead .«timer_at» ≤ present ⌝ }
     ensures value { λ r. ⌜ r ≡ frame-size (C·WireCode .which) present lead ⌝ }
-    ensures within { λ r. ⌜ made r (λ n. n ≤ present) ⌝ }
+    ensures within { λ r. ⌜ made r (λ n. (n ≤ present) × (lead .«timer_at» + 6 * per-byte (C·WireCode .which) ≤ n)) ⌝ }
 {
     if lead.zero != 0 {
         return Err(Fault {
@@ -171,9 +171,9 @@ fn frame_size<C: WireCode>(lead: Lead, present: usize) -> Result<usize, Fault>
 
 // The timer, the command and the subcommand.
 fn read_call<C: WireCode>(frame: &[u8], lead: Lead, size: usize) -> Result<Header, Fault>
-    requires { ⌜ lead .«timer_at» ≤ length (now frame) ⌝ ∗ ⌜ size ≤ length (now frame) ⌝ }
+    requires { ⌜ lead .«timer_at» + 6 * per-byte (C·WireCode .which) ≤ size ⌝ ∗ ⌜ size ≤ length (now frame) ⌝ }
     ensures value { λ r. ⌜ r ≡ call-at (C·WireCode .which) (now (frame .entry)) lead size ⌝ }
-    ensures within { λ r. ⌜ made r (λ h. h .size ≤ length (now (frame .entry))) ⌝ }
+    ensures within { λ r. ⌜ made r (λ h. (h .size ≤ length (now (frame .entry))) × (h .«data_at» ≤ h .size)) ⌝ }
 {
     let (timer, used) = number::<C>(frame, lead.timer_at, 2)?;
     let command_at = lead.timer_at + used;
@@ -197,7 +197,7 @@ fn read_call<C: WireCode>(frame: &[u8], lead: Lead, size: usize) -> Result<Heade
 fn read_fields<C: WireCode>(frame: &[u8], form: Form) -> Result<Header, Fault>
     requires { ⌜ 2 * per-byte (C·WireCode .which) ≤ length (now frame) ⌝ }
     ensures value { λ r. ⌜ r ≡ fields-at (C·WireCode .which) form (now (frame .entry)) ⌝ }
-    ensures within { λ r. ⌜ made r (λ h. h .size ≤ length (now (frame .entry))) ⌝ }
+    ensures within { λ r. ⌜ made r (λ h. (h .size ≤ length (now (frame .entry))) × (h .«data_at» ≤ h .size)) ⌝ }
 {
     let lead = read_lead::<C>(frame, form)?;
     let size = frame_size::<C>(lead, frame.len())?;
@@ -207,7 +207,7 @@ fn read_fields<C: WireCode>(frame: &[u8], form: Form) -> Result<Header, Fault>
 // Tests the frame at the front of `frame`, for a reply space of `space` bytes, and reads its header.
 pub fn read_frame<C: WireCode>(frame: &[u8], space: usize) -> Result<Header, Fault>
     ensures value { λ r. ⌜ r ≡ tested (C·WireCode .which) space (now (frame .entry)) ⌝ }
-    ensures within { λ r. ⌜ made r (λ h. h .size ≤ length (now (frame .entry))) ⌝ }
+    ensures within { λ r. ⌜ made r (λ h. (h .size ≤ length (now (frame .entry))) × (h .«data_at» ≤ h .size) × (4096 ≤ space)) ⌝ }
 {
     let present = frame.len();
     if space < 4096 {

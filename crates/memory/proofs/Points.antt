@@ -13,7 +13,7 @@ use Rattle.std.specs.declared.result.Result.the-variants.{Ok, Err}
 use Rattle.device.specs.declared.types.Device.{Device}
 use Rattle.device.specs.Devices.{kindOf, placeOf}
 use Rattle.device.proofs.Places.{place-one}
-use Rattle.memory.specs.Meaning.{Meaning, value-limit, put, is-opened, written, write-answer}
+use Rattle.memory.specs.Meaning.{Meaning, value-limit, put, written, write-answer}
 use Rattle.memory.specs.Layout.{start, room, width, unit-of, extent-in, index-of, point-in, with-point, value-in, stored, units-after, admitted}
 use Rattle.memory.specs.Kept.{Kept, kept-same}
 use Rattle.memory.specs.declared.layout.Form.{Form}
@@ -78,7 +78,7 @@ module _ (f : Form) (us es : List ℕ) (d : Device) (n v : ℕ) (h : n < extent-
       (cases-eq (placeOf d) (placeOf e))
 
   pub written-in : stored f after es ≡ written (Ok tt) (stored f us es) d n v
-  written-in i = record { extent = extent-in es; value = λ e k. put-in e k i; opened = is-opened (extent-in es) (λ _ _. true) }
+  written-in i = record { extent = extent-in es; value = λ e k. put-in e k i; opened = λ e k. ltb k (extent-in es e) }
 
   pub kept-in : (a : ℕ) → Kept f a es us a es after
   kept-in a =
@@ -90,13 +90,13 @@ module _ (f : Form) (us es : List ℕ) (d : Device) (n v : ℕ) (h : n < extent-
       }
 
 -- an answer Ok passed both tests
-passed : (a b : Bool) → _≡_ {A = Result (Unit {0}) Refusal} (cond a (cond (a && true) (cond b (Ok tt) (Err TooWide)) (Err Closed)) (Err Outside)) (Ok tt) → (a ≡ true) × (b ≡ true)
+passed : (a b : Bool) → _≡_ {A = Result (Unit {0}) Refusal} (cond a (cond a (cond b (Ok tt) (Err TooWide)) (Err Closed)) (Err Outside)) (Ok tt) → (a ≡ true) × (b ≡ true)
 passed true true e = (refl, refl)
 passed true false e = let z : _≡_ {A = ℕ} 0 1 = cc in absurd (omega arith)
 passed false b e = let z : _≡_ {A = ℕ} 0 1 = cc in absurd (omega arith)
 
 -- no open point is refused as closed
-never-closed : (a : Bool) (x y z : Result (Unit {0}) Refusal) → cond a x z ≡ cond a (cond (a && true) x y) z
+never-closed : (a : Bool) (x y z : Result (Unit {0}) Refusal) → cond a x z ≡ cond a (cond a x y) z
 never-closed true x y z = refl
 never-closed false x y z = refl
 

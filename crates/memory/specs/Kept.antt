@@ -13,7 +13,7 @@ use Rattle.device.specs.declared.types.Kind.{Kind}
 use Rattle.device.specs.declared.types.Kind.the-variants.{Bit, Word}
 use Rattle.device.specs.Devices.{kindOf}
 use Rattle.memory.specs.Meaning.{Sound}
-use Rattle.memory.specs.Layout.{extent-in, index-of, bitAt, part-of, point-in, value-in, Small}
+use Rattle.memory.specs.Layout.{extent-in, index-of, bitAt, part-of, point-in, value-in, stored, Small}
 use Rattle.memory.specs.declared.layout.Form.{Form}
 use Rattle.memory.specs.declared.layout.Form.the-variants.{Packed, Image}
 
@@ -73,12 +73,13 @@ point-narrow Image Word us i n e = let z : _≡_ {A = ℕ} 0 1 = cc in omega ari
 
 -- a memory whose points lie in a storage is a sound one
 pub stored-sound : {S : Type 0} (f : Form) (a : S → ℕ) (es us : S → List ℕ) → ((s : S) → Small (es s))
-    → Sound (λ s. extent-in (es s)) (λ s. value-in f (us s) (es s)) (λ s t. Kept f (a s) (es s) (us s) (a t) (es t) (us t))
+    → Sound (λ s. stored f (us s) (es s)) (λ s t. Kept f (a s) (es s) (us s) (a t) (es t) (us t))
 stored-sound f a es us small =
     record {
       small = small;
       narrow = λ s d n e. narrow-or (ltb n (extent-in (es s) d)) _ (point-narrow f (kindOf d) (us s) (index-of f (es s) d n) n e);
       outside = λ s d n h. rw (le-ltb n (extent-in (es s) d) h);
+      shut = λ s d n h. le-ltb n (extent-in (es s) d) h;
       kept-same = λ s. kept-same f (a s) (es s) (us s);
       kept-on = λ s t u x y. kept-on f x y;
     }

@@ -12,7 +12,7 @@ use Rattle.device.specs.declared.types.Device.{Device}
 use Rattle.device.specs.declared.types.Kind.{Kind}
 use Rattle.device.specs.declared.types.Kind.the-variants.{Bit, Word}
 use Rattle.device.specs.Devices.{kindOf, placeOf, deviceAt}
-use Rattle.memory.specs.Meaning.{Meaning, meaning, extent-limit, value-limit}
+use Rattle.memory.specs.Meaning.{Meaning, extent-limit, value-limit}
 use Rattle.memory.specs.declared.layout.Form.{Form}
 use Rattle.memory.specs.declared.layout.Form.the-variants.{Packed, Image}
 use Rattle.memory.specs.declared.refusal.Refusal.{Refusal}
@@ -99,7 +99,7 @@ value-in f us es d n = cond (ltb n (extent-in es d)) (point-in f (kindOf d) us (
 
 -- what a storage with these units and extents means: all its points are open
 abbrev pub stored : Form → List ℕ → List ℕ → Meaning
-stored f us es = meaning (extent-in es) (value-in f us es) (λ _ _. true)
+stored f us es = record { extent = extent-in es; value = value-in f us es; opened = λ d n. ltb n (extent-in es d) }
 
 -- the units after a write that answered r; a refusal changes nothing
 abbrev pub units-after : Form → Result (Unit {0}) Refusal → List ℕ → List ℕ → Device → ℕ → ℕ → List ℕ

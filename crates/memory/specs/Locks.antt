@@ -2,6 +2,7 @@
 use Prim.Native.Nat.{ℕ}
 use mathlib.Core.List.{List, [], _∷_, _++_}
 use mathlib.Core.Bool.{Bool, true, false, cond, not, _&&_, _||_}
+use mathlib.Core.Path.{_≡_, ap}
 use lib.Dec.{eqb, leb, ltb}
 use lib.ListN.{length}
 use Rattle.std.specs.declared.result.Result.{Result}
@@ -39,9 +40,13 @@ abbrev pub locks-after : Result (Unit {0}) Refusal → List Range → Range → 
 locks-after (Ok _) rs r = rs ++ (r ∷ [])
 locks-after (Err _) rs r = rs
 
--- which points are open under locks
-abbrev pub open-under : List Range → (Device → ℕ → Bool) → Device → ℕ → Bool
-open-under rs opens d n = opens d n && not (is-locked rs d n)
+-- a memory under locks: a point is open if it is open below and lies in no locked range
+abbrev pub under : List Range → Meaning → Meaning
+under rs m = record { extent = m .extent; value = m .value; opened = λ d n. m .opened d n && not (is-locked rs d n) }
+
+-- what is closed below is closed under locks
+pub shut-under : (rs : List Range) (m : Meaning) (d : Device) (n : ℕ) → m .opened d n ≡ false → under rs m .opened d n ≡ false
+shut-under rs m d n e = ap (λ b. b && not (is-locked rs d n)) e
 
 -- what a write through locks answers: a locked point inside is closed, and else the memory below answers
 abbrev pub answer-under : List Range → Meaning → Device → ℕ → ℕ → Result (Unit {0}) Refusal

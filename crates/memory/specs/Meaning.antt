@@ -29,20 +29,9 @@ pub record Meaning : Type 0 where
   pub value : Device → ℕ → ℕ
   pub opened : Device → ℕ → Bool
 
--- whether a point is open; no point outside is
-abbrev pub is-opened : (Device → ℕ) → (Device → ℕ → Bool) → Device → ℕ → Bool
-is-opened extents opens d n = ltb n (extents d) && opens d n
-
-abbrev pub meaning : (Device → ℕ) → (Device → ℕ → ℕ) → (Device → ℕ → Bool) → Meaning
-meaning extents values opens = record { extent = extents; value = values; opened = is-opened extents opens }
-
--- the meaning of a memory that is only read: no point is open
-abbrev pub closed-meaning : (Device → ℕ) → (Device → ℕ → ℕ) → Meaning
-closed-meaning extents values = record { extent = extents; value = values; opened = λ d n. false }
-
 -- the value inside, nothing outside
-abbrev pub told : (Device → ℕ) → (Device → ℕ → ℕ) → Device → ℕ → Option ℕ
-told extents values d n = cond (ltb n (extents d)) (Some (values d n)) None
+abbrev pub told : Meaning → Device → ℕ → Option ℕ
+told m d n = cond (ltb n (m .extent d)) (Some (m .value d n)) None
 
 -- a write refuses a point outside, then a closed point, then a value too wide for the kind
 abbrev pub write-answer : Meaning → Device → ℕ → ℕ → Result (Unit {0}) Refusal
@@ -62,10 +51,11 @@ abbrev pub written : Result (Unit {0}) Refusal → Meaning → Device → ℕ �
 written (Ok _) m d n v = record { extent = m .extent; value = put (m .value) d n v; opened = m .opened }
 written (Err _) m d n v = m
 
--- no extent passes its limit, a bit point holds 0 or 1, no value stands outside, and what is kept is kept over any number of calls
-pub record Sound {S : Type 0} (extents : S → Device → ℕ) (values : S → Device → ℕ → ℕ) (keeps : S → S → Type 0) : Type 0 where
-  pub small : (s : S) (d : Device) → extents s d ≤ extent-limit d
-  pub narrow : (s : S) (d : Device) (n : ℕ) → kindOf d ≡ Bit → values s d n < 2
-  pub outside : (s : S) (d : Device) (n : ℕ) → extents s d ≤ n → values s d n ≡ 0
+-- no extent passes its limit, a bit point holds 0 or 1, outside no value stands and no point is open, and what is kept is kept over any number of calls
+pub record Sound {S : Type 0} (means : S → Meaning) (keeps : S → S → Type 0) : Type 0 where
+  pub small : (s : S) (d : Device) → means s .extent d ≤ extent-limit d
+  pub narrow : (s : S) (d : Device) (n : ℕ) → kindOf d ≡ Bit → means s .value d n < 2
+  pub outside : (s : S) (d : Device) (n : ℕ) → means s .extent d ≤ n → means s .value d n ≡ 0
+  pub shut : (s : S) (d : Device) (n : ℕ) → means s .extent d ≤ n → means s .opened d n ≡ false
   pub kept-same : (s : S) → keeps s s
   pub kept-on : (s t u : S) → keeps s t → keeps t u → keeps s u

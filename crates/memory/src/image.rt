@@ -86,9 +86,7 @@ impl<'a> ByteImage<'a> {
 }
 
 pub impl<'a> ReadableMemory for ByteImage<'a> as ImageReadable {
-    ghost extents = { λ s. extent-in (s .extents) };
-
-    ghost values = { λ s. value-in Image (now (s .bytes)) (s .extents) };
+    ghost means = { λ s. stored Image (now (s .bytes)) (s .extents) };
 
     ghost keeps = { λ s t. Kept Image (name (s .bytes)) (s .extents) (now (s .bytes)) (name (t .bytes)) (t .extents) (now (t .bytes)) };
 
@@ -108,8 +106,6 @@ pub impl<'a> ReadableMemory for ByteImage<'a> as ImageReadable {
 }
 
 pub impl<'a> WritableMemory for ByteImage<'a> as ImageWritable {
-    ghost opens = { λ _ _ _. true };
-
     fn is_open(&self, device: Device, number: u32) -> bool {
         number < self.extents[device.place()]
     }

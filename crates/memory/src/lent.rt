@@ -8,13 +8,11 @@ use crate::traits::WritableMemory;
 use device::Device;
 
 pub impl<'b, M: ReadableMemory> ReadableMemory for &'b mut M as LentReadable {
-    ghost extents = { λ s. M·ReadableMemory .extents (now s) };
-
-    ghost values = { λ s. M·ReadableMemory .values (now s) };
+    ghost means = { λ s. M·ReadableMemory .means (now s) };
 
     ghost keeps = { λ s t. (name t ≡ name s) × M·ReadableMemory .keeps (now s) (now t) };
 
-    ghost sound = { record { small = λ s. M·ReadableMemory .sound .small (now s); narrow = λ s. M·ReadableMemory .sound .narrow (now s); outside = λ s. M·ReadableMemory .sound .outside (now s); kept-same = λ s. (refl, M·ReadableMemory .sound .kept-same (now s)); kept-on = λ s t u x y. (y .0 ∙ x .0, M·ReadableMemory .sound .kept-on (now s) (now t) (now u) (x .1) (y .1)) } };
+    ghost sound = { record { small = λ s. M·ReadableMemory .sound .small (now s); narrow = λ s. M·ReadableMemory .sound .narrow (now s); outside = λ s. M·ReadableMemory .sound .outside (now s); shut = λ s. M·ReadableMemory .sound .shut (now s); kept-same = λ s. (refl, M·ReadableMemory .sound .kept-same (now s)); kept-on = λ s t u x y. (y .0 ∙ x .0, M·ReadableMemory .sound .kept-on (now s) (now t) (now u) (x .1) (y .1)) } };
 
     fn extent(&self, device: Device) -> u32 {
         (**self).extent(device)
@@ -26,8 +24,6 @@ pub impl<'b, M: ReadableMemory> ReadableMemory for &'b mut M as LentReadable {
 }
 
 pub impl<'b, M: WritableMemory> WritableMemory for &'b mut M as LentWritable {
-    ghost opens = { λ s. M·WritableMemory .opens (now s) };
-
     fn is_open(&self, device: Device, number: u32) -> bool {
         (**self).is_open(device, number)
     }

@@ -6,8 +6,8 @@ ghost use Prim.Native.Nat.{ℕ, _+_, _<_, _≤_, min};
 ghost use lib.Dec.{ltb};
 ghost use lib.ListN.{length, set, take};
 ghost use Rattle.device.specs.Devices.{placeOf};
-ghost use Rattle.memory.specs.Meaning.{meaning, written};
-ghost use Rattle.memory.specs.Locks.{covers, is-locked, may-lock, lock-answer, locks-after, open-under, answer-under};
+ghost use Rattle.memory.specs.Meaning.{written};
+ghost use Rattle.memory.specs.Locks.{covers, is-locked, may-lock, lock-answer, locks-after, under, shut-under, answer-under};
 use crate::refusal::Refusal;
 use crate::traits::ReadableMemory;
 use crate::traits::WritableMemory;
@@ -118,13 +118,11 @@ impl<M: WritableMemory> Locked<M> {
 }
 
 pub impl<M: ReadableMemory> ReadableMemory for Locked<M> as LockedReadable {
-    ghost extents = { λ s. M·ReadableMemory .extents (s .below) };
-
-    ghost values = { λ s. M·ReadableMemory .values (s .below) };
+    ghost means = { λ s. under (take (s .count) (s .ranges)) (M·ReadableMemory .means (s .below)) };
 
     ghost keeps = { λ s t. M·ReadableMemory .keeps (s .below) (t .below) × (t .ranges ≡ s .ranges) × (t .count ≡ s .count) };
 
-    ghost sound = { record { small = λ s. M·ReadableMemory .sound .small (s .below); narrow = λ s. M·ReadableMemory .sound .narrow (s .below); outside = λ s. M·ReadableMemory .sound .outside (s .below); kept-same = λ s. (M·ReadableMemory .sound .kept-same (s .below), refl, refl); kept-on = λ s t u x y. (M·ReadableMemory .sound .kept-on (s .below) (t .below) (u .below) (x .0) (y .0), y .1 ∙ x .1, y .2 ∙ x .2) } };
+    ghost sound = { record { small = λ s. M·ReadableMemory .sound .small (s .below); narrow = λ s. M·ReadableMemory .sound .narrow (s .below); outside = λ s. M·ReadableMemory .sound .outside (s .below); shut = λ s d n h. shut-under (take (s .count) (s .ranges)) (M·ReadableMemory .means (s .below)) d n (M·ReadableMemory .sound .shut (s .below) d n h); kept-same = λ s. (M·ReadableMemory .sound .kept-same (s .below), refl, refl); kept-on = λ s t u x y. (M·ReadableMemory .sound .kept-on (s .below) (t .below) (u .below) (x .0) (y .0), y .1 ∙ x .1, y .2 ∙ x .2) } };
 
     fn extent(&self, device: Device) -> u32 {
         self.below.extent(device)
@@ -138,15 +136,15 @@ pub impl<M: ReadableMemory> ReadableMemory for Locked<M> as LockedReadable {
 impl<M: WritableMemory> Locked<M> {
     // Whether a point inside is locked.
     fn is_shut(&self, device: Device, number: u32) -> bool
-        ensures { λ r. ⌜ r ≡ (ltb number (M·ReadableMemory .extents (now (self .entry) .below) device) && is-locked (take (now (self .entry) .count) (now (self .entry) .ranges)) device number) ⌝ }
+        ensures { λ r. ⌜ r ≡ (ltb number (M·ReadableMemory .means (now (self .entry) .below) .extent device) && is-locked (take (now (self .entry) .count) (now (self .entry) .ranges)) device number) ⌝ }
     {
         number < self.below.extent(device) && is_locked(&self.ranges, self.count, device, number)
     }
 
     // Writes the memory below, unless the point is locked.
     fn pass(&mut self, device: Device, number: u32, value: u16) -> Result<(), Refusal>
-        ensures answer { λ r. ⌜ r ≡ answer-under (take (now (self .entry) .count) (now (self .entry) .ranges)) (meaning (M·ReadableMemory .extents (now (self .entry) .below)) (M·ReadableMemory .values (now (self .entry) .below)) (opens (now (self .entry) .below))) device number value ⌝ }
-        ensures meaning { λ r. ⌜ meaning (M·ReadableMemory .extents (now (self .exit) .below)) (M·ReadableMemory .values (now (self .exit) .below)) (opens (now (self .exit) .below)) ≡ written r (meaning (M·ReadableMemory .extents (now (self .entry) .below)) (M·ReadableMemory .values (now (self .entry) .below)) (opens (now (self .entry) .below))) device number value ⌝ }
+        ensures answer { λ r. ⌜ r ≡ answer-under (take (now (self .entry) .count) (now (self .entry) .ranges)) (M·ReadableMemory .means (now (self .entry) .below)) device number value ⌝ }
+        ensures meaning { λ r. ⌜ M·ReadableMemory .means (now (self .exit) .below) ≡ written r (M·ReadableMemory .means (now (self .entry) .below)) device number value ⌝ }
         ensures keeps { λ _. ⌜ M·ReadableMemory .keeps (now (self .entry) .below) (now (self .exit) .below) ⌝ }
         ensures ranges { λ _. ⌜ now (self .exit) .ranges ≡ now (self .entry) .ranges ⌝ }
         ensures count { λ _. ⌜ now (self .exit) .count ≡ now (self .entry) .count ⌝ }
@@ -159,8 +157,6 @@ impl<M: WritableMemory> Locked<M> {
 }
 
 pub impl<M: WritableMemory> WritableMemory for Locked<M> as LockedWritable {
-    ghost opens = { λ s. open-under (take (s .count) (s .ranges)) (M·WritableMemory .opens (s .below)) };
-
     fn is_open(&self, device: Device, number: u32) -> bool {
         self.below.is_open(device, number) && !is_locked(&self.ranges, self.count, device, number)
     }

@@ -6,7 +6,7 @@ ghost use Prim.Native.Nat.{ℕ, _+_, _*_, _^_, _<_, _≤_};
 ghost use lib.ListN.{length, getD};
 ghost use denote.Ref.{now, name};
 ghost use Rattle.device.specs.Devices.{kindOf, placeOf};
-ghost use Rattle.memory.specs.Meaning.{meaning, told, is-opened, write-answer, written};
+ghost use Rattle.memory.specs.Meaning.{write-answer, written};
 ghost use Rattle.memory.specs.Layout.{with-bit, with-part, part-of, extent-in, index-of, value-in, stored, units-after, admitted, Small, room, needed, making, made-of};
 ghost use Rattle.memory.specs.Kept.{Kept, stored-sound};
 ghost use Rattle.memory.specs.declared.layout.Form.the-variants.{Packed};
@@ -109,9 +109,7 @@ impl<'a> PackedTables<'a> {
 }
 
 pub impl<'a> ReadableMemory for PackedTables<'a> as PackedReadable {
-    ghost extents = { λ s. extent-in (s .extents) };
-
-    ghost values = { λ s. value-in Packed (now (s .words)) (s .extents) };
+    ghost means = { λ s. stored Packed (now (s .words)) (s .extents) };
 
     ghost keeps = { λ s t. Kept Packed (name (s .words)) (s .extents) (now (s .words)) (name (t .words)) (t .extents) (now (t .words)) };
 
@@ -131,8 +129,6 @@ pub impl<'a> ReadableMemory for PackedTables<'a> as PackedReadable {
 }
 
 pub impl<'a> WritableMemory for PackedTables<'a> as PackedWritable {
-    ghost opens = { λ _ _ _. true };
-
     fn is_open(&self, device: Device, number: u32) -> bool {
         number < self.extents[device.place()]
     }

@@ -3,7 +3,6 @@ ghost use mathlib.Core.Path.{_≡_};
 ghost use Prim.Native.Nat.{ℕ, _+_, _*_, _^_, _<_, _≤_};
 ghost use lib.ListN.{length, drop};
 ghost use Rattle.std.specs.Vec.{made};
-ghost use Rattle.memory.specs.Meaning.{closed-meaning};
 ghost use Rattle.wire.specs.Numbers.{per-byte};
 ghost use Rattle.request.specs.Requests.{points, within, Read-bits, Read-words, judged};
 ghost use Rattle.request.specs.Fine.{Fine};
@@ -34,7 +33,7 @@ fn points_of(kind: Kind, words: usize) -> usize
 // Whether so many points from `number` on lie within the extent.
 fn is_within<M: ReadableMemory>(memory: &M, device: Device, number: u32, points: usize) -> bool
     requires { ⌜ points ≤ 65536 ⌝ }
-    ensures { λ r. ⌜ r ≡ within (closed-meaning (M·ReadableMemory .extents (now (memory .entry))) (M·ReadableMemory .values (now (memory .entry)))) device number points ⌝ }
+    ensures { λ r. ⌜ r ≡ within (M·ReadableMemory .means (now (memory .entry))) device number points ⌝ }
 {
     number as usize + points <= memory.extent(device) as usize
 }
@@ -60,7 +59,7 @@ fn read_bits<C: WireCode, M: ReadableMemory>(
     at: usize,
 ) -> Result<Request, Fault>
     requires { ⌜ at ≤ length (now frame) ⌝ }
-    ensures value { λ r. ⌜ said r ≡ judged (C·WireCode .which) (closed-meaning (M·ReadableMemory .extents (now (memory .entry))) (M·ReadableMemory .values (now (memory .entry)))) Read-bits (now (frame .entry)) at ⌝ }
+    ensures value { λ r. ⌜ said r ≡ judged (C·WireCode .which) (M·ReadableMemory .means (now (memory .entry))) Read-bits (now (frame .entry)) at ⌝ }
     ensures fine { λ r. ⌜ made r Fine ⌝ }
 {
     let (device, number, used) = fields::device::<C>(frame, at)?;
@@ -102,7 +101,7 @@ fn read_words<C: WireCode, M: ReadableMemory>(
     at: usize,
 ) -> Result<Request, Fault>
     requires { ⌜ at ≤ length (now frame) ⌝ }
-    ensures value { λ r. ⌜ said r ≡ judged (C·WireCode .which) (closed-meaning (M·ReadableMemory .extents (now (memory .entry))) (M·ReadableMemory .values (now (memory .entry)))) Read-words (now (frame .entry)) at ⌝ }
+    ensures value { λ r. ⌜ said r ≡ judged (C·WireCode .which) (M·ReadableMemory .means (now (memory .entry))) Read-words (now (frame .entry)) at ⌝ }
     ensures fine { λ r. ⌜ made r Fine ⌝ }
 {
     let (device, number, used) = fields::device::<C>(frame, at)?;
@@ -144,7 +143,7 @@ pub fn read_request<C: WireCode, M: ReadableMemory>(
     write_flag: bool,
 ) -> Result<Request, Fault>
     requires { ⌜ header .«data_at» ≤ length (now frame) ⌝ }
-    ensures value { λ r. ⌜ said r ≡ request-in (C·WireCode .which) (closed-meaning (M·ReadableMemory .extents (now (memory .entry))) (M·ReadableMemory .values (now (memory .entry)))) «write_flag» header (now (frame .entry)) ⌝ }
+    ensures value { λ r. ⌜ said r ≡ request-in (C·WireCode .which) (M·ReadableMemory .means (now (memory .entry))) «write_flag» header (now (frame .entry)) ⌝ }
     ensures fine { λ r. ⌜ made r Fine ⌝ }
 {
     let at = header.data_at;

@@ -7,4 +7,6 @@ mod showing;
 
 pub use registration::Access;
 pub use registration::Registration;
+pub use serve::Answer;
+pub use serve::take_frame;
 pub use settings::Settings;

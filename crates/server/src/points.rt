@@ -11,7 +11,7 @@ use memory::ReadableMemory;
 
 // The value of a point; 0 outside.
 pub(crate) fn value_at<M: ReadableMemory>(memory: &M, device: Device, number: u32) -> u16
-    ensures { λ r. ⌜ r ≡ M·ReadableMemory .values (now (memory .entry)) device number ⌝ }
+    ensures { λ r. ⌜ r ≡ (M·ReadableMemory .means (now (memory .entry)) .value) device number ⌝ }
 {
     match memory.read(device, number) {
         Some(value) => value,
@@ -30,7 +30,7 @@ fn with_bit(word: u16, bit: u16) -> u16
 // Sixteen bit points as one word, the lowest number in bit 0.
 fn sixteen<M: ReadableMemory>(memory: &M, device: Device, number: u32) -> u16
     requires { ⌜ kindOf device ≡ Bit ⌝ ∗ ⌜ number < 2 ^ 31 ⌝ }
-    ensures { λ r. ⌜ r ≡ packed (M·ReadableMemory .values (now (memory .entry))) device number 16 ⌝ }
+    ensures { λ r. ⌜ r ≡ packed (M·ReadableMemory .means (now (memory .entry)) .value) device number 16 ⌝ }
 {
     let mut word = 0;
     for i in (0..16u32).rev() {
@@ -42,7 +42,7 @@ fn sixteen<M: ReadableMemory>(memory: &M, device: Device, number: u32) -> u16
 // The word that begins at a point.
 pub(crate) fn word_at<M: ReadableMemory>(memory: &M, device: Device, number: u32) -> u16
     requires { ⌜ number < 2 ^ 31 ⌝ }
-    ensures { λ r. ⌜ r ≡ word (M·ReadableMemory .values (now (memory .entry))) device number ⌝ }
+    ensures { λ r. ⌜ r ≡ word (M·ReadableMemory .means (now (memory .entry)) .value) device number ⌝ }
 {
     match device.kind() {
         Kind::Bit => sixteen(memory, device, number),

@@ -26,7 +26,7 @@ pub(crate) fn write_words<C: WireCode, M: ReadableMemory>(
     count: usize,
 )
     requires { ⌜ count ≤ 960 ⌝ ∗ ⌜ number < 2 ^ 24 ⌝ ∗ ⌜ at + count * (2 * per-byte (C·WireCode .which)) ≤ length (now out) ⌝ }
-    ensures { λ _. ⌜ now (out .exit) ≡ sets (now (out .entry)) at (values-bytes (C·WireCode .which) 2 (words (M·ReadableMemory .values (now (memory .entry))) device number count)) ⌝ }
+    ensures { λ _. ⌜ now (out .exit) ≡ sets (now (out .entry)) at (values-bytes (C·WireCode .which) 2 (words (M·ReadableMemory .means (now (memory .entry)) .value) device number count)) ⌝ }
 {
     let mut place = at;
     let mut next = number;
@@ -46,7 +46,7 @@ pub(crate) fn write_bits<C: WireCode, M: ReadableMemory>(
     count: usize,
 )
     requires { ⌜ count ≤ 3584 ⌝ ∗ ⌜ number < 2 ^ 24 ⌝ ∗ ⌜ kindOf device ≡ Bit ⌝ ∗ ⌜ at + bits-size (C·WireCode .which) count ≤ length (now out) ⌝ }
-    ensures { λ _. ⌜ now (out .exit) ≡ sets (now (out .entry)) at (bits-bytes (C·WireCode .which) (bits (M·ReadableMemory .values (now (memory .entry))) device number count)) ⌝ }
+    ensures { λ _. ⌜ now (out .exit) ≡ sets (now (out .entry)) at (bits-bytes (C·WireCode .which) (bits (M·ReadableMemory .means (now (memory .entry)) .value) device number count)) ⌝ }
 {
     let mut place = at;
     let mut next = number;

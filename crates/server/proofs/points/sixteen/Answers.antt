@@ -16,7 +16,7 @@ loop-i-again g c =
     let m = g .M·ReadableMemory in
     let x = c .args in
     let i = c .loop-i .i in
-    let V = m .values (x .memory .now) in
+    let V = m .means (x .memory .now) .value in
     let b = c .value-at .result in
     let bit : b < 2 = rw (c .value-at .ensures) (m .sound .narrow (x .memory .now) (x .device) (x .number + (i - 1)) (c .pre .0)) in
     rw (c .with-bit-word .ensures) (

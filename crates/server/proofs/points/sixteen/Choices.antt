@@ -5,4 +5,4 @@ use Rattle.server.proofs.points.sixteen.Given as given
 
 abbrev pub Inv-loop-i : given.InvT-loop-i
 Inv-loop-i g l =
-    (l .word ≡ packed (g .M·ReadableMemory .values (l .memory)) (l .device) (l .number + l .i) (16 - l .i)) × (l .word < 2 ^ (16 - l .i))
+    (l .word ≡ packed (g .M·ReadableMemory .means (l .memory) .value) (l .device) (l .number + l .i) (16 - l .i)) × (l .word < 2 ^ (16 - l .i))

@@ -10,7 +10,7 @@ pub returns : need.returns
 returns g c =
     let code = g .C·WireCode .which in
     let x = c .args in
-    let V = g .M·ReadableMemory .values (x .memory .now) in
+    let V = g .M·ReadableMemory .means (x .memory .now) .value in
     let vs = bits V (x .device) (x .number) (x .points) in
     let head = c .write-head-at .ensures in
     told code (x .header) 0 _ (c .write-head-at .result) _ None (bits-bytes code vs) (x .reply .now) (c .write-head-at .last .out) _
