@@ -35,7 +35,14 @@ fn serve(code: Code, frame: &[u8], reply: &mut [u8]) -> Answer {
     let _ = tables.write(Device::M, 3, 1);
     let settings = Settings { write_flag: false };
     let mut registration = Registration::new();
-    take_frame(code, frame, reply, &mut tables, &settings, &mut registration)
+    take_frame(
+        code,
+        frame,
+        reply,
+        &mut tables,
+        &settings,
+        &mut registration,
+    )
 }
 
 fn fault(cause: Cause, place: usize) -> Option<Fault> {
@@ -56,55 +63,143 @@ fn frames_that_are_not_taken_up() -> Result<(), Fail> {
     check_eq(answer.fault, fault(Cause::NoReplySpace, 0))?;
     check(answer.taken == 0 && answer.length == 0)?;
     check(short[0] == 0xEE && short[4094] == 0xEE)?;
-    check_eq(met(Code::Binary, b"\x50\x00\x00"), fault(Cause::Incomplete, 3))?;
+    check_eq(
+        met(Code::Binary, b"\x50\x00\x00"),
+        fault(Cause::Incomplete, 3),
+    )?;
     check_eq(met(Code::Ascii, b"500"), fault(Cause::Incomplete, 3))?;
-    check_eq(met(Code::Binary, b"\x51\x00"), fault(Cause::BadSubheader, 0))?;
-    check_eq(met(Code::Ascii, b"500G00FF03FF00"), fault(Cause::BadSubheader, 0))?;
-    check_eq(met(Code::Ascii, b"50000GFF03FF000018"), fault(Cause::BadDigit, 5))?;
-    check_eq(met(Code::Ascii, b"500000FF03FF00001a"), fault(Cause::BadDigit, 17))?;
-    check_eq(met(Code::Binary, b"\x54\x00\x34\x12\x01\x00\x00\xFF\xFF\x03\x00\x05\x00"), fault(Cause::NonZero, 4))?;
-    check_eq(met(Code::Binary, b"\x50\x00\x00\xFF\xFF\x03\x00\x05\x00"), fault(Cause::BadLength, 7))?;
-    check_eq(met(Code::Binary, b"\x50\x00\x00\xFF\xFF\x03\x00\x01\x20"), fault(Cause::BadLength, 7))?;
-    check_eq(met(Code::Binary, b"\x50\x00\x00\xFF\xFF\x03\x00\x06\x00\x10"), fault(Cause::Incomplete, 10))?;
-    check_eq(met(Code::Ascii, b"500000FF03FF00000C001 04010000"), fault(Cause::BadDigit, 21))
+    check_eq(
+        met(Code::Binary, b"\x51\x00"),
+        fault(Cause::BadSubheader, 0),
+    )?;
+    check_eq(
+        met(Code::Ascii, b"500G00FF03FF00"),
+        fault(Cause::BadSubheader, 0),
+    )?;
+    check_eq(
+        met(Code::Ascii, b"50000GFF03FF000018"),
+        fault(Cause::BadDigit, 5),
+    )?;
+    check_eq(
+        met(Code::Ascii, b"500000FF03FF00001a"),
+        fault(Cause::BadDigit, 17),
+    )?;
+    check_eq(
+        met(
+            Code::Binary,
+            b"\x54\x00\x34\x12\x01\x00\x00\xFF\xFF\x03\x00\x05\x00",
+        ),
+        fault(Cause::NonZero, 4),
+    )?;
+    check_eq(
+        met(Code::Binary, b"\x50\x00\x00\xFF\xFF\x03\x00\x05\x00"),
+        fault(Cause::BadLength, 7),
+    )?;
+    check_eq(
+        met(Code::Binary, b"\x50\x00\x00\xFF\xFF\x03\x00\x01\x20"),
+        fault(Cause::BadLength, 7),
+    )?;
+    check_eq(
+        met(Code::Binary, b"\x50\x00\x00\xFF\xFF\x03\x00\x06\x00\x10"),
+        fault(Cause::Incomplete, 10),
+    )?;
+    check_eq(
+        met(Code::Ascii, b"500000FF03FF00000C001 04010000"),
+        fault(Cause::BadDigit, 21),
+    )
 }
 
 #[test]
 fn requests_that_are_refused() -> Result<(), Fail> {
-    check_eq(met(Code::Ascii, b"500000FF03FF00000C001009990000"), fault(Cause::UnknownCommand, 22))?;
-    check_eq(met(Code::Ascii, b"500000FF03FF00000C001004010000"), fault(Cause::BadSize, 30))?;
-    check_eq(met(Code::Ascii, b"500000FF03FF000018001004010000Q*0000020001"), fault(Cause::UnknownDevice, 30))?;
-    check_eq(met(Code::Ascii, b"500000FF03FF000018001004010000D 0000020001"), fault(Cause::UnknownDevice, 30))?;
-    check_eq(met(Code::Ascii, b"500000FF03FF000018001004010000D*00000A0001"), fault(Cause::DataDigit, 37))?;
-    check_eq(met(Code::Ascii, b"500000FF03FF000018001004010000D*     20001"), fault(Cause::DataDigit, 32))?;
-    check_eq(met(Code::Ascii, b"500000FF03FF000018001004010001D*0000020001"), fault(Cause::WrongKind, 30))?;
-    check_eq(met(Code::Ascii, b"500000FF03FF000018001004010000D*0000020000"), fault(Cause::WordCount, 38))?;
-    check_eq(met(Code::Ascii, b"500000FF03FF000018001004010000D*00000203C1"), fault(Cause::WordCount, 38))?;
-    check_eq(met(Code::Ascii, b"500000FF03FF000018001004010001M*0000020E01"), fault(Cause::BitCount, 38))?;
-    check_eq(met(Code::Ascii, b"500000FF03FF000018001004010000D*0000310002"), fault(Cause::OutsideExtent, 30))?;
-    check_eq(met(Code::Ascii, b"500000FF03FF00001A001004010000D*000002000100"), fault(Cause::BadSize, 42))
+    check_eq(
+        met(Code::Ascii, b"500000FF03FF00000C001009990000"),
+        fault(Cause::UnknownCommand, 22),
+    )?;
+    check_eq(
+        met(Code::Ascii, b"500000FF03FF00000C001004010000"),
+        fault(Cause::BadSize, 30),
+    )?;
+    check_eq(
+        met(Code::Ascii, b"500000FF03FF000018001004010000Q*0000020001"),
+        fault(Cause::UnknownDevice, 30),
+    )?;
+    check_eq(
+        met(Code::Ascii, b"500000FF03FF000018001004010000D 0000020001"),
+        fault(Cause::UnknownDevice, 30),
+    )?;
+    check_eq(
+        met(Code::Ascii, b"500000FF03FF000018001004010000D*00000A0001"),
+        fault(Cause::DataDigit, 37),
+    )?;
+    check_eq(
+        met(Code::Ascii, b"500000FF03FF000018001004010000D*     20001"),
+        fault(Cause::DataDigit, 32),
+    )?;
+    check_eq(
+        met(Code::Ascii, b"500000FF03FF000018001004010001D*0000020001"),
+        fault(Cause::WrongKind, 30),
+    )?;
+    check_eq(
+        met(Code::Ascii, b"500000FF03FF000018001004010000D*0000020000"),
+        fault(Cause::WordCount, 38),
+    )?;
+    check_eq(
+        met(Code::Ascii, b"500000FF03FF000018001004010000D*00000203C1"),
+        fault(Cause::WordCount, 38),
+    )?;
+    check_eq(
+        met(Code::Ascii, b"500000FF03FF000018001004010001M*0000020E01"),
+        fault(Cause::BitCount, 38),
+    )?;
+    check_eq(
+        met(Code::Ascii, b"500000FF03FF000018001004010000D*0000310002"),
+        fault(Cause::OutsideExtent, 30),
+    )?;
+    check_eq(
+        met(Code::Ascii, b"500000FF03FF00001A001004010000D*000002000100"),
+        fault(Cause::BadSize, 42),
+    )
 }
 
 #[test]
 fn replies_and_the_space_behind_them() -> Result<(), Fail> {
     let mut reply = [0xEEu8; 4096];
-    let answer = serve(Code::Ascii, b"500000FF03FF000018001004010000D*00000200015000", &mut reply);
+    let answer = serve(
+        Code::Ascii,
+        b"500000FF03FF000018001004010000D*00000200015000",
+        &mut reply,
+    );
     check_eq(answer.fault, None)?;
     check(answer.taken == 42 && answer.length == 26)?;
     check(reply[0..26] == b"D00000FF03FF00000800001234"[..])?;
     check(reply[26] == 0xEE && reply[4095] == 0xEE)?;
-    let refused = serve(Code::Binary, b"\x54\x00\x34\x12\x00\x00\x01\xFE\xFF\x03\x02\x06\x00\x10\x00\x99\x09\x00\x00", &mut reply);
+    let refused = serve(
+        Code::Binary,
+        b"\x54\x00\x34\x12\x00\x00\x01\xFE\xFF\x03\x02\x06\x00\x10\x00\x99\x09\x00\x00",
+        &mut reply,
+    );
     check(refused.taken == 19 && refused.length == 24)?;
-    check(reply[0..24] == b"\xD4\x00\x34\x12\x00\x00\x01\xFE\xFF\x03\x02\x0B\x00\x59\xC0\x01\xFE\xFF\x03\x02\x99\x09\x00\x00"[..])?;
+    check(
+        reply[0..24]
+            == b"\xD4\x00\x34\x12\x00\x00\x01\xFE\xFF\x03\x02\x0B\x00\x59\xC0\x01\xFE\xFF\x03\x02\x99\x09\x00\x00"[..],
+    )?;
     check(reply[24] == b'3' && reply[26] == 0xEE)
 }
 
 #[test]
 fn hexadecimal_numbers_and_bit_words() -> Result<(), Fail> {
     let mut reply = [0xEEu8; 4096];
-    let w = serve(Code::Ascii, b"500000FF03FF000018001004010000W*00001F0001", &mut reply);
+    let w = serve(
+        Code::Ascii,
+        b"500000FF03FF000018001004010000W*00001F0001",
+        &mut reply,
+    );
     check(w.length == 26 && reply[22..26] == b"0007"[..])?;
-    let m = serve(Code::Binary, b"\x50\x00\x00\xFF\xFF\x03\x00\x0C\x00\x10\x00\x01\x04\x00\x00\x00\x00\x00\x90\x02\x00", &mut reply);
+    let m = serve(
+        Code::Binary,
+        b"\x50\x00\x00\xFF\xFF\x03\x00\x0C\x00\x10\x00\x01\x04\x00\x00\x00\x00\x00\x90\x02\x00",
+        &mut reply,
+    );
     check(m.length == 15 && reply[11..15] == b"\x09\x00\x00\x00"[..])
 }
 

@@ -1,3 +1,4 @@
 pub mod Packs
 pub mod Shows
 pub mod Telling
+pub mod Trying

@@ -1,5 +1,6 @@
 pub mod Counts
 pub mod Points
+pub mod Writes
 pub mod Registered
 pub mod Answers
 pub mod Serves

@@ -4,6 +4,7 @@ mod registration;
 mod serve;
 mod settings;
 mod showing;
+mod storing;
 
 pub use registration::Access;
 pub use registration::Registration;

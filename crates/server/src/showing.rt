@@ -29,7 +29,7 @@ pub(crate) fn write_words<C: WireCode, M: ReadableMemory>(
     ensures { λ _. ⌜ now (out .exit) ≡ sets (now (out .entry)) at (values-bytes (C·WireCode .which) 2 (words (M·ReadableMemory .means (now (memory .entry)) .value) device number count)) ⌝ }
 {
     let mut place = at;
-    let mut next = number;
+    let mut next = number as usize;
     for i in 0..count {
         place += C::write_number(out, place, 2, word_at(memory, device, next) as u32);
         next += word_points(device);
@@ -49,7 +49,7 @@ pub(crate) fn write_bits<C: WireCode, M: ReadableMemory>(
     ensures { λ _. ⌜ now (out .exit) ≡ sets (now (out .entry)) at (bits-bytes (C·WireCode .which) (bits (M·ReadableMemory .means (now (memory .entry)) .value) device number count)) ⌝ }
 {
     let mut place = at;
-    let mut next = number;
+    let mut next = number as usize;
     for i in 0..count / 2 {
         place += C::write_two_bits(
             out,
