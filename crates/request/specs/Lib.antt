@@ -1,4 +1,7 @@
 pub mod Fields
 pub mod Walks
+pub mod Limits
 pub mod Requests
+pub mod Entries
 pub mod Readings
+pub mod Lists

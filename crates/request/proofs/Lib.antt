@@ -1,0 +1,5 @@
+pub mod Opens
+pub mod Turns
+pub mod Lists
+pub mod Parts
+pub mod Judged
