@@ -1,5 +1,10 @@
 pub mod Fields
 pub mod Walks
+pub mod Limits
 pub mod Requests
+pub mod Entries
 pub mod Readings
-pub mod Fine
+pub mod Lists
+pub mod Verdicts
+pub mod Writing
+pub mod Laws

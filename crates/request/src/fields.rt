@@ -1,10 +1,10 @@
 // The fields of a request's data.
 ghost use mathlib.Core.Path.{_≡_};
-ghost use Prim.Native.Nat.{ℕ, _+_, _*_, _^_, _<_, _≤_};
+ghost use Prim.Native.Nat.{ℕ, _+_, _-_, _*_, _^_, _<_, _≤_};
 ghost use lib.ListN.{length, drop};
 ghost use Rattle.std.specs.Vec.{made};
 ghost use Rattle.wire.specs.Numbers.{per-byte};
-ghost use Rattle.request.specs.Fields.{data-fault, number-at, device-at};
+ghost use Rattle.request.specs.Fields.{data-fault, number-at, device-at, present, counts-at, ends};
 use device::Device;
 use frame::Cause;
 use frame::Fault;
@@ -12,7 +12,7 @@ use wire::FieldFault;
 use wire::WireCode;
 
 // The fault of the field that stands at `at`.
-fn data_fault(at: usize, fault: FieldFault) -> Fault
+pub(crate) fn data_fault(at: usize, fault: FieldFault) -> Fault
     requires { ⌜ at + 255 < 2 ^ 64 ⌝ }
     ensures { λ r. ⌜ r ≡ data-fault at fault ⌝ }
 {
@@ -58,4 +58,53 @@ pub(crate) fn device<C: WireCode>(frame: &[u8], at: usize) -> Result<(Device, u3
         Ok(read) => Ok(read),
         Err(fault) => Err(data_fault(at, fault)),
     }
+}
+
+// A field of `size` wire bytes at `at` is there.
+pub(crate) fn present(frame: &[u8], at: usize, size: usize) -> Result<usize, Fault>
+    requires { ⌜ at ≤ length (now frame) ⌝ }
+    ensures value { λ r. ⌜ r ≡ present (now (frame .entry)) at size ⌝ }
+    ensures within { λ r. ⌜ made r (λ n. (n ≡ size) × (at + size ≤ length (now (frame .entry)))) ⌝ }
+{
+    if frame.len() - at < size {
+        return Err(Fault {
+            cause: Cause::BadSize,
+            place: at,
+        });
+    }
+    Ok(size)
+}
+
+// The pair of counts at `at`, and the wire bytes it used.
+pub(crate) fn counts<C: WireCode>(frame: &[u8], at: usize) -> Result<(usize, usize, usize), Fault>
+    requires { ⌜ at ≤ length (now frame) ⌝ }
+    ensures value { λ r. ⌜ r ≡ counts-at (C·WireCode .which) (now (frame .entry)) at ⌝ }
+    ensures within { λ r. ⌜ made r (λ p. (at + p .2 ≤ length (now (frame .entry))) × (p .0 < 256) × (p .1 < 256)) ⌝ }
+{
+    let used = present(frame, at, C::field_size(2))?;
+    let (first, one) = number::<C>(frame, at, 1)?;
+    let (second, _) = number::<C>(frame, at + one, 1)?;
+    Ok((first as usize, second as usize, used))
+}
+
+// The frame from `place` on.
+pub(crate) fn part_from(frame: &[u8], place: usize) -> &[u8]
+    requires { ⌜ place ≤ length (now frame) ⌝ }
+    ensures value { λ r. ⌜ now r ≡ drop place (now (frame .entry)) ⌝ }
+    ensures long { λ r. ⌜ length (now r) ≡ length (now (frame .entry)) - place ⌝ }
+{
+    &frame[place..]
+}
+
+// The end of the data: bytes that are left are a fault at the first of them.
+pub(crate) fn ended(frame: &[u8], at: usize) -> Result<(), Fault>
+    ensures { λ r. ⌜ r ≡ ends (now (frame .entry)) at tt ⌝ }
+{
+    if at < frame.len() {
+        return Err(Fault {
+            cause: Cause::BadSize,
+            place: at,
+        });
+    }
+    Ok(())
 }

@@ -1,158 +1,83 @@
-// The walk over each command's fields, with its tests.
+// Which command a frame carries, and the reader of its data.
 ghost use mathlib.Core.Path.{_≡_};
+ghost use mathlib.Core.Bool.{Bool, true, false};
 ghost use Prim.Native.Nat.{ℕ, _+_, _*_, _^_, _<_, _≤_};
 ghost use lib.ListN.{length, drop};
 ghost use Rattle.std.specs.Vec.{made};
-ghost use Rattle.wire.specs.Numbers.{per-byte};
-ghost use Rattle.request.specs.Requests.{points, within, Read-bits, Read-words, judged};
-ghost use Rattle.request.specs.Fine.{Fine};
-ghost use Rattle.request.specs.Readings.{said, said-by, ends, request-in};
+ghost use Rattle.request.specs.Requests.{judged};
+ghost use Rattle.request.specs.Requests.{Monitor as Monitoring};
+ghost use Rattle.request.specs.Readings.{held, said, Whole, request-in};
+ghost use Rattle.request.specs.Laws.{Alike, Passed, Bounded};
+use crate::batch;
 use crate::fields;
+use crate::random;
 use crate::types::Request;
-use device::Device;
-use device::Kind;
-use device::KindPartialEq;
 use frame::Cause;
 use frame::Fault;
 use frame::Header;
 use memory::ReadableMemory;
+use memory::WritableMemory;
 use wire::WireCode;
 
-// The points of so many words.
-fn points_of(kind: Kind, words: usize) -> usize
-    requires { ⌜ words ≤ 960 ⌝ }
-    ensures value { λ r. ⌜ r ≡ points kind words ⌝ }
-    ensures few { λ r. ⌜ r ≤ 65536 ⌝ }
-{
-    match kind {
-        Kind::Bit => 16 * words,
-        Kind::Word => words,
-    }
-}
-
-// Whether so many points from `number` on lie within the extent.
-fn is_within<M: ReadableMemory>(memory: &M, device: Device, number: u32, points: usize) -> bool
-    requires { ⌜ points ≤ 65536 ⌝ }
-    ensures { λ r. ⌜ r ≡ within (M·ReadableMemory .means (now (memory .entry))) device number points ⌝ }
-{
-    number as usize + points <= memory.extent(device) as usize
-}
-
-// The end of the data: bytes that are left are a fault at the first of them.
-fn ended(frame: &[u8], at: usize, request: Request) -> Result<Request, Fault>
-    ensures value { λ r. ⌜ said r ≡ ends (now (frame .entry)) at (said-by request) ⌝ }
-    ensures same { λ r. ⌜ made r (λ q. q ≡ request) ⌝ }
-{
-    if at < frame.len() {
-        return Err(Fault {
-            cause: Cause::BadSize,
-            place: at,
-        });
-    }
-    Ok(request)
-}
-
-// 0401 with 0001: a batch of bits.
-fn read_bits<C: WireCode, M: ReadableMemory>(
+// 0802 with 0000: a monitor request. It has no data.
+fn read_monitor<'a, C: WireCode, M: ReadableMemory>(
     memory: &M,
-    frame: &[u8],
+    frame: &'a [u8],
     at: usize,
-) -> Result<Request, Fault>
-    requires { ⌜ at ≤ length (now frame) ⌝ }
-    ensures value { λ r. ⌜ said r ≡ judged (C·WireCode .which) (M·ReadableMemory .means (now (memory .entry))) Read-bits (now (frame .entry)) at ⌝ }
-    ensures fine { λ r. ⌜ made r Fine ⌝ }
+) -> Result<Request<'a>, Fault>
+    ensures value { λ r. ⌜ said (C·WireCode .which) r ≡ judged (C·WireCode .which) (M·ReadableMemory .means (now (memory .entry))) Monitoring (now (frame .entry)) at ⌝ }
+    ensures whole { λ r. ⌜ made (held r) (Whole (C·WireCode .which)) ⌝ }
 {
-    let (device, number, used) = fields::device::<C>(frame, at)?;
-    if device.kind() != Kind::Bit {
-        return Err(Fault {
-            cause: Cause::WrongKind,
-            place: at,
-        });
-    }
-    let points_at = at + used;
-    let (points, used) = fields::number::<C>(frame, points_at, 2)?;
-    if points < 1 || points > 3584 {
-        return Err(Fault {
-            cause: Cause::BitCount,
-            place: points_at,
-        });
-    }
-    if !is_within(memory, device, number, points as usize) {
-        return Err(Fault {
-            cause: Cause::OutsideExtent,
-            place: at,
-        });
-    }
-    ended(
-        frame,
-        points_at + used,
-        Request::ReadBits {
-            device,
-            number,
-            points: points as usize,
-        },
-    )
+    fields::ended(frame, at)?;
+    Ok(Request::Monitor)
 }
 
-// 0401 with 0000: a batch of words.
-fn read_words<C: WireCode, M: ReadableMemory>(
+// The request of a frame whose header was read: the command first, then its data.
+fn read_command<'a, C: WireCode, M: WritableMemory>(
     memory: &M,
-    frame: &[u8],
-    at: usize,
-) -> Result<Request, Fault>
-    requires { ⌜ at ≤ length (now frame) ⌝ }
-    ensures value { λ r. ⌜ said r ≡ judged (C·WireCode .which) (M·ReadableMemory .means (now (memory .entry))) Read-words (now (frame .entry)) at ⌝ }
-    ensures fine { λ r. ⌜ made r Fine ⌝ }
-{
-    let (device, number, used) = fields::device::<C>(frame, at)?;
-    let points_at = at + used;
-    let (points, used) = fields::number::<C>(frame, points_at, 2)?;
-    if points < 1 || points > 960 {
-        return Err(Fault {
-            cause: Cause::WordCount,
-            place: points_at,
-        });
-    }
-    if !is_within(
-        memory,
-        device,
-        number,
-        points_of(device.kind(), points as usize),
-    ) {
-        return Err(Fault {
-            cause: Cause::OutsideExtent,
-            place: at,
-        });
-    }
-    ended(
-        frame,
-        points_at + used,
-        Request::ReadWords {
-            device,
-            number,
-            points: points as usize,
-        },
-    )
-}
-
-// Reads the request of a frame whose header was read, and tests it over the memory.
-pub fn read_request<C: WireCode, M: ReadableMemory>(
-    memory: &M,
-    frame: &[u8],
+    frame: &'a [u8],
     header: Header,
     write_flag: bool,
-) -> Result<Request, Fault>
+) -> Result<Request<'a>, Fault>
     requires { ⌜ header .«data_at» ≤ length (now frame) ⌝ }
-    ensures value { λ r. ⌜ said r ≡ request-in (C·WireCode .which) (M·ReadableMemory .means (now (memory .entry))) «write_flag» header (now (frame .entry)) ⌝ }
-    ensures fine { λ r. ⌜ made r Fine ⌝ }
+    ensures value { λ r. ⌜ said (C·WireCode .which) r ≡ request-in (C·WireCode .which) (M·ReadableMemory .means (now (memory .entry))) «write_flag» header (now (frame .entry)) ⌝ }
+    ensures whole { λ r. ⌜ made (held r) (Whole (C·WireCode .which)) ⌝ }
 {
     let at = header.data_at;
     match (header.command, header.subcommand) {
-        (0x0401, 0x0001) => read_bits::<C, M>(memory, frame, at),
-        (0x0401, 0x0000) => read_words::<C, M>(memory, frame, at),
+        (0x0401, 0x0001) => batch::read_bits::<C, M>(memory, frame, at),
+        (0x0401, 0x0000) => batch::read_words::<C, M>(memory, frame, at),
+        (0x0403, 0x0000) => random::read_random::<C, M>(memory, frame, at),
+        (0x0801, 0x0000) => random::register::<C, M>(memory, frame, at),
+        (0x0802, 0x0000) => read_monitor::<C, M>(memory, frame, at),
+        (0x1401 | 0x1402, 0x0000 | 0x0001) if !write_flag => Err(Fault {
+            cause: Cause::WriteOff,
+            place: header.command_at,
+        }),
+        (0x1401, 0x0001) => batch::write_bits::<C, M>(memory, frame, at),
+        (0x1401, 0x0000) => batch::write_words::<C, M>(memory, frame, at),
+        (0x1402, 0x0001) => random::write_random_bits::<C, M>(memory, frame, at),
+        (0x1402, 0x0000) => random::write_random::<C, M>(memory, frame, at),
         _ => Err(Fault {
             cause: Cause::UnknownCommand,
             place: header.command_at,
         }),
     }
+}
+
+// Reads the request of a frame whose header was read, and tests it over the memory.
+pub fn read_request<'a, C: WireCode, M: WritableMemory>(
+    memory: &M,
+    frame: &'a [u8],
+    header: Header,
+    write_flag: bool,
+) -> Result<Request<'a>, Fault>
+    requires { ⌜ header .«data_at» ≤ length (now frame) ⌝ }
+    ensures value { λ r. ⌜ said (C·WireCode .which) r ≡ request-in (C·WireCode .which) (M·ReadableMemory .means (now (memory .entry))) «write_flag» header (now (frame .entry)) ⌝ }
+    ensures whole { λ r. ⌜ made (held r) (Whole (C·WireCode .which)) ⌝ }
+    ensures alike { λ r. ⌜ Alike (C·WireCode .which) (M·ReadableMemory .means (now (memory .entry))) «write_flag» header (now (frame .entry)) (said (C·WireCode .which) r) ⌝ }
+    ensures passed { λ r. ⌜ Passed (M·ReadableMemory .means (now (memory .entry))) (said (C·WireCode .which) r) ⌝ }
+    ensures bounded { λ r. ⌜ made (held r) (Bounded (M·ReadableMemory .means (now (memory .entry)))) ⌝ }
+{
+    read_command::<C, M>(memory, frame, header, write_flag)
 }

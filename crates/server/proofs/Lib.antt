@@ -1,4 +1,6 @@
 pub mod Packs
 pub mod Shows
-pub mod Telling
 pub mod Trying
+pub mod Telling
+pub mod Listing
+pub mod Taken

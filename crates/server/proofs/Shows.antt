@@ -5,9 +5,14 @@ use Prim.Native.Nat.{ℕ, zero, suc, _+_, _-_, _*_, _/_, _%_, _<_, _≤_}
 use native.Mathlib.Nat.{add-mul, add-assoc}
 use native.Mathlib.Numerals.{add-one}
 use native.Mathlib.Omega.{arith}
-use lib.ListN.{length, length-append}
+use lib.ListN.{length, length-append, drop, getD}
+use Rattle.std.proofs.shelf.Lists.{drop-more}
 use lib.Seq.{sets}
 use Rattle.device.specs.declared.types.Device.{Device}
+use Rattle.device.specs.declared.types.Device.the-variants.{M}
+use Rattle.server.specs.declared.registration.Access.{Access}
+use Rattle.server.specs.declared.points.Width.{Width}
+use Rattle.server.specs.Registered.{accesses}
 use Rattle.device.specs.Devices.{kindOf}
 use Rattle.wire.specs.declared.code.Code.{Code}
 use Rattle.wire.specs.declared.code.Code.the-variants.{Binary, Ascii}
@@ -16,8 +21,8 @@ use Rattle.wire.specs.Series.{values-bytes}
 use Rattle.wire.specs.Points.{half-bytes, digit-each, bits-bytes, bits-size}
 use Rattle.wire.proofs.Places.{sets-sets}
 use Rattle.wire.proofs.RoundTrip.{length-encode}
-use Rattle.request.specs.Requests.{points}
-use Rattle.server.specs.Points.{Values, word, words, bits}
+use Rattle.request.specs.Limits.{points}
+use Rattle.server.specs.Points.{Values, word, words, bits, bytes-of, value-of, values-of}
 
 -- one more of so many
 pub one-of : (count i k : ℕ) → i < count → (count - i) * k ≡ k + (count - (i + 1)) * k
@@ -99,3 +104,29 @@ length-each (v ∷ vs) = ap suc (length-each vs)
 pub length-bits-bytes : (code : Code) (vs : List ℕ) → length (bits-bytes code vs) ≡ bits-size code (length vs)
 length-bits-bytes Binary vs = length-half vs
 length-bits-bytes Ascii vs = length-each vs
+
+-- what is read where there is no access
+abbrev pub no-access : Access
+no-access = record { device = M; number = 0 }
+
+module _ (code : Code) (width : Width) (V : Values) (es : List Access) (i : ℕ) (below : i < length es) where
+  abbrev here : Access
+  here = getD es i no-access
+
+  pub accesses-turn : (out : List ℕ) (place v n : ℕ) → v ≡ value-of width V (here .device) (here .number) → n ≡ bytes-of width
+      → sets (sets out place (encode code n v)) (place + n * per-byte code) (values-bytes code (bytes-of width) (values-of width V (accesses (drop (i + 1) es))))
+      ≡ sets out place (values-bytes code (bytes-of width) (values-of width V (accesses (drop i es))))
+  accesses-turn out place v n e f =
+      rw (e, f)
+      (sets-sets out place (bytes-of width * per-byte code) (encode code (bytes-of width) (value-of width V (here .device) (here .number))) _ (length-encode code (bytes-of width) _)
+      ∙ ap (λ l. sets out place (values-bytes code (bytes-of width) (values-of width V (accesses l)))) (sym (drop-more es i no-access below)))
+
+  pub left-turn : (k : ℕ) → length (drop i es) * k ≡ k + length (drop (i + 1) es) * k
+  left-turn k = ap (λ l. length l * k) (drop-more es i no-access below) ∙ ap (λ n. n * k) (one (length (drop (i + 1) es))) ∙ add-mul 1 (length (drop (i + 1) es)) k ∙ ap (λ n. n + length (drop (i + 1) es) * k) (omega arith)
+    where
+      one : (n : ℕ) → suc n ≡ 1 + n
+      one n = omega arith
+
+pub length-values-of : (width : Width) (V : Values) (as′ : List Access) → length (values-of width V (accesses as′)) ≡ length as′
+length-values-of width V [] = refl
+length-values-of width V (a ∷ rest) = ap suc (length-values-of width V rest)

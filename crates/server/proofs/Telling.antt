@@ -12,7 +12,14 @@ use Rattle.frame.specs.declared.fault.Fault.{Fault}
 use Rattle.frame.specs.declared.header.Header.{Header}
 use Rattle.frame.specs.Replies.{head-size, head-bytes, reply-bytes}
 use Rattle.frame.proofs.Heads.{length-head, head-then-data}
-use Rattle.server.specs.Serves.{Tells}
+use Rattle.std.specs.declared.option.Option.the-variants.{None}
+use Rattle.memory.specs.Meaning.{Meaning}
+use Rattle.server.specs.declared.serve.Answer.{Answer}
+use Rattle.server.specs.Answers.{accepted, no-data, answer-bytes}
+use Rattle.server.specs.Registered.{Listed}
+use Rattle.server.specs.Writes.{Write, tried, All-taken}
+use Rattle.server.specs.Serves.{Tells, Came, finished, wrote}
+use Rattle.server.proofs.Trying.{all-made}
 
 pub told : (code : Code) (h : Header) (end n at long : ℕ) (met : Option Fault) (bytes r₀ r₁ r₂ : List ℕ)
     → length bytes ≡ n → at ≡ head-size (h .form) * per-byte code → long ≡ at + n
@@ -25,3 +32,8 @@ told code h end n at long met bytes r₀ r₁ r₂ e a l p q =
       meets = refl;
       reply = q ∙ ap (λ r. sets r at bytes) p ∙ head-then-data code h end n at bytes r₀ e a;
     }
+
+-- writes that the memory takes, and a reply without data
+pub came-wrote : (code : Code) (h : Header) (m m′ : Meaning) (g : Option Listed) (ws : List Write) (a : Answer) (r r′ : List ℕ)
+    → m′ ≡ tried m ws → All-taken m ws → Tells (h .size) (answer-bytes code h (accepted no-data)) None a r r′ → Came (finished code h (wrote ws m g)) a r r′ m′ g
+came-wrote code h m m′ g ws a r r′ e t tells = record { tells = tells; means = e ∙ all-made m ws t; lists = refl }

@@ -48,3 +48,7 @@ all-made m (w ∷ ws) t =
     still : (us : List Write) → All-taken m us → All-taken (written (Ok tt) m (w .0) (w .1) (w .2)) us
     still [] s = tt
     still (u ∷ us) s = (s .0, still us (s .1))
+
+-- the same with a part that is looked at under another name
+pub tried-more : (m m′ : Meaning) (us vs : List Write) {all : Meaning} → m′ ≡ tried m us → tried m (us ++ vs) ≡ all → tried m′ vs ≡ all
+tried-more m m′ us vs e f = ap (λ n. tried n vs) e ∙ tried-on m us vs ∙ f

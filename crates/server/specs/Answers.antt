@@ -9,14 +9,18 @@ use Rattle.frame.specs.declared.header.Header.{Header}
 use Rattle.frame.specs.Faults.{number-of}
 use Rattle.frame.specs.Replies.{reply-bytes, error-numbers}
 
--- the data values of a reply: points in bits, or words of two bytes
+-- the data values of a reply: none, points in bits, words of two bytes, or words and then double words of four bytes
 pub data Data : Type 0 where
+  no-data : Data
   in-bits : List ℕ → Data
   in-words : List ℕ → Data
+  in-both : List ℕ → List ℕ → Data
 
 abbrev pub data-bytes : Code → Data → List ℕ
+data-bytes code no-data = []
 data-bytes code (in-bits vs) = bits-bytes code vs
 data-bytes code (in-words vs) = values-bytes code 2 vs
+data-bytes code (in-both ws ds) = values-bytes code 2 ws ++ values-bytes code 4 ds
 
 -- an accepted request gets its data, a refused one its cause
 pub data Answered : Type 0 where

@@ -5,7 +5,7 @@ use Rattle.device.specs.declared.types.Device.{Device}
 use Rattle.device.specs.declared.types.Kind.{Kind}
 use Rattle.device.specs.declared.types.Kind.the-variants.{Bit, Word as Whole}
 use Rattle.device.specs.Devices.{kindOf}
-use Rattle.request.specs.Requests.{points}
+use Rattle.request.specs.Limits.{points}
 use Rattle.server.specs.declared.points.Width.{Width}
 use Rattle.server.specs.declared.points.Width.the-variants.{Word, Double}
 

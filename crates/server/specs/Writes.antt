@@ -5,10 +5,13 @@ use Prim.Native.Nat.{ℕ, zero, suc, _+_, _/_, _%_}
 use Rattle.std.specs.declared.result.Result.the-variants.{Ok}
 use Rattle.device.specs.declared.types.Device.{Device}
 use Rattle.device.specs.declared.types.Kind.{Kind}
-use Rattle.device.specs.declared.types.Kind.the-variants.{Bit, Word}
+use Rattle.device.specs.declared.types.Kind.the-variants.{Bit, Word as Whole}
 use Rattle.device.specs.Devices.{kindOf}
 use Rattle.memory.specs.Meaning.{Meaning, put, write-answer, written}
-use Rattle.request.specs.Requests.{points}
+use Rattle.request.specs.Limits.{points}
+use Rattle.request.specs.Requests.{Setting}
+use Rattle.server.specs.declared.storing.Reach.{Reach}
+use Rattle.server.specs.declared.storing.Reach.the-variants.{Point, Word, Double}
 use Rattle.server.specs.Points.{Values}
 
 -- a device, a number and the value that the point is given
@@ -46,7 +49,7 @@ spread d n (suc k) v = (d, n, v % 2) ∷ spread d (n + 1) k (v / 2)
 
 abbrev pub word-write : Kind → Device → ℕ → ℕ → List Write
 word-write Bit d n v = spread d n 16 v
-word-write Word d n v = (d, n, v) ∷ []
+word-write Whole d n v = (d, n, v) ∷ []
 
 -- a word: on a bit device 16 points
 abbrev pub as-word : Device → ℕ → ℕ → List Write
@@ -64,3 +67,20 @@ as-words d n (v ∷ vs) = as-word d n v ++ as-words d (n + points (kindOf d) 1) 
 -- one point
 abbrev pub as-point : Device → ℕ → ℕ → List Write
 as-point d n v = (d, n, v) ∷ []
+
+-- each setting in turn, by what one setting writes
+abbrev pub each : (Device → ℕ → ℕ → List Write) → List Setting → List Write
+each f [] = []
+each f (s ∷ ss) = f (s .0 .0) (s .0 .1) (s .1) ++ each f ss
+
+-- how many bytes the value of a setting has
+abbrev pub size-of : Reach → ℕ
+size-of Point = 1
+size-of Word = 2
+size-of Double = 4
+
+-- what a setting writes
+abbrev pub as-reach : Reach → Device → ℕ → ℕ → List Write
+as-reach Point d n v = as-point d n v
+as-reach Word d n v = as-word d n v
+as-reach Double d n v = as-double d n v

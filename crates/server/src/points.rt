@@ -3,7 +3,7 @@ ghost use mathlib.Core.Path.{_≡_};
 ghost use Prim.Native.Nat.{ℕ, _+_, _-_, _*_, _^_, _<_, _≤_};
 ghost use Rattle.device.specs.Devices.{kindOf};
 ghost use Rattle.device.specs.declared.types.Kind.the-variants.{Bit};
-ghost use Rattle.request.specs.Requests.{points};
+ghost use Rattle.request.specs.Limits.{points};
 ghost use Rattle.server.specs.Points.{packed, word, double, value-of, bytes-of};
 use device::Device;
 use device::Kind;

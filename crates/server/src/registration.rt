@@ -24,3 +24,5 @@ pub struct Registration {
 }
 
 mod lists;
+
+pub(crate) use lists::listed;

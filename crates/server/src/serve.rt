@@ -8,16 +8,27 @@ ghost use Rattle.device.specs.Devices.{kindOf};
 ghost use Rattle.device.specs.declared.types.Kind.the-variants.{Bit};
 ghost use Rattle.wire.specs.Numbers.{per-byte};
 ghost use Rattle.server.specs.Points.{words, bits};
-ghost use Rattle.server.specs.Registered.{registered};
-ghost use Rattle.server.specs.Answers.{accepted, refused, in-bits, in-words, answer-bytes};
-ghost use Rattle.request.specs.Fine.{Fine};
-ghost use Rattle.request.specs.Readings.{said-by, request-in};
-ghost use Rattle.server.specs.Serves.{Tells, Came, done, finished, answered, served};
+ghost use Rattle.server.specs.Registered.{registered, words-in, doubles-in};
+ghost use Rattle.server.specs.Answers.{accepted, refused, no-data, in-bits, in-words, answer-bytes};
+ghost use Rattle.std.specs.Vec.{made};
+ghost use Rattle.std.specs.declared.result.Result.the-variants.{Ok};
+ghost use Rattle.request.specs.Laws.{Bounded, Passed};
+ghost use Rattle.request.specs.Readings.{held, said, Whole, request-in};
+ghost use Rattle.server.specs.Serves.{Tells, Came, shown, monitored, late-fault, answered, served};
+use crate::points::Width;
 use crate::registration::Registration;
+use crate::registration::listed;
 use crate::settings::Settings;
+use crate::showing::write_accesses;
 use crate::showing::write_bits;
 use crate::showing::write_words;
+use crate::storing::Reach;
+use crate::storing::put_bits;
+use crate::storing::put_random;
+use crate::storing::put_settings;
+use crate::storing::put_words;
 use device::Device;
+use frame::Cause;
 use frame::Fault;
 use frame::Header;
 use frame::read_frame;
@@ -65,7 +76,7 @@ fn show_words<C: WireCode, M: ReadableMemory>(
     number: u32,
     points: usize,
 ) -> Answer
-    requires { ⌜ 4096 ≤ length (now reply) ⌝ ∗ ⌜ points ≤ 960 ⌝ ∗ ⌜ number < 2 ^ 24 ⌝ }
+    requires { ⌜ 4096 ≤ length (now reply) ⌝ ∗ ⌜ points ≤ 960 ⌝ }
     ensures { λ r. ⌜ Tells (header .size) (answer-bytes (C·WireCode .which) header (accepted (in-words (words (M·ReadableMemory .means (now (memory .entry)) .value) device number points)))) None r (now (reply .entry)) (now (reply .exit)) ⌝ }
 {
     let size = points * C::field_size(2);
@@ -87,7 +98,7 @@ fn show_bits<C: WireCode, M: ReadableMemory>(
     number: u32,
     points: usize,
 ) -> Answer
-    requires { ⌜ 4096 ≤ length (now reply) ⌝ ∗ ⌜ points ≤ 3584 ⌝ ∗ ⌜ number < 2 ^ 24 ⌝ ∗ ⌜ kindOf device ≡ Bit ⌝ }
+    requires { ⌜ 4096 ≤ length (now reply) ⌝ ∗ ⌜ points ≤ 3584 ⌝ ∗ ⌜ kindOf device ≡ Bit ⌝ }
     ensures { λ r. ⌜ Tells (header .size) (answer-bytes (C·WireCode .which) header (accepted (in-bits (bits (M·ReadableMemory .means (now (memory .entry)) .value) device number points)))) None r (now (reply .entry)) (now (reply .exit)) ⌝ }
 {
     let size = C::bits_size(points);
@@ -100,16 +111,78 @@ fn show_bits<C: WireCode, M: ReadableMemory>(
     }
 }
 
+// The reply to a request that was carried out and has no data to show.
+fn accept<C: WireCode>(reply: &mut [u8], header: Header) -> Answer
+    requires { ⌜ 4096 ≤ length (now reply) ⌝ }
+    ensures { λ r. ⌜ Tells (header .size) (answer-bytes (C·WireCode .which) header (accepted no-data)) None r (now (reply .entry)) (now (reply .exit)) ⌝ }
+{
+    let at = write_head::<C>(reply, header, 0, 0);
+    Answer {
+        taken: header.size,
+        length: at,
+        fault: None,
+    }
+}
+
+// The reply that shows a list of accesses.
+fn show_listed<C: WireCode, M: ReadableMemory>(
+    reply: &mut [u8],
+    header: Header,
+    memory: &M,
+    list: &Registration,
+) -> Answer
+    requires { ⌜ 4096 ≤ length (now reply) ⌝ }
+    ensures { λ r. ⌜ Tells (header .size) (answer-bytes (C·WireCode .which) header (shown (M·ReadableMemory .means (now (memory .entry))) (words-in (now (list .entry)), doubles-in (now (list .entry))))) None r (now (reply .entry)) (now (reply .exit)) ⌝ }
+{
+    let words = list.words();
+    let doubles = list.doubles();
+    let size = words.len() * C::field_size(2) + doubles.len() * C::field_size(4);
+    let at = write_head::<C>(reply, header, size, 0);
+    let at_doubles = write_accesses::<C, M>(reply, at, memory, words, Width::Word);
+    let length = write_accesses::<C, M>(reply, at_doubles, memory, doubles, Width::Double);
+    Answer {
+        taken: header.size,
+        length,
+        fault: None,
+    }
+}
+
+// The reply to a monitor request: the registered list, or that there is none.
+fn show_registered<C: WireCode, M: ReadableMemory>(
+    reply: &mut [u8],
+    header: Header,
+    memory: &M,
+    registration: &Registration,
+) -> Answer
+    requires { ⌜ 4096 ≤ length (now reply) ⌝ }
+    ensures { λ r. ⌜ Tells (header .size) (answer-bytes (C·WireCode .which) header (monitored (M·ReadableMemory .means (now (memory .entry))) (registered (now (registration .entry))))) (late-fault header (monitored (M·ReadableMemory .means (now (memory .entry))) (registered (now (registration .entry))))) r (now (reply .entry)) (now (reply .exit)) ⌝ }
+{
+    match registration.count() {
+        Some(_) => show_listed::<C, M>(reply, header, memory, registration),
+        None => refuse::<C>(
+            reply,
+            header,
+            Fault {
+                cause: Cause::NotRegistered,
+                place: header.command_at,
+            },
+        ),
+    }
+}
+
 // Carries out a request that passed its tests.
 fn carry_out<C: WireCode, M: WritableMemory>(
     reply: &mut [u8],
     header: Header,
-    request: Request,
+    request: Request<'_>,
     memory: &mut M,
     registration: &mut Registration,
 ) -> Answer
-    requires { ⌜ 4096 ≤ length (now reply) ⌝ ∗ ⌜ Fine request ⌝ }
-    ensures came { λ r. ⌜ Came (finished (C·WireCode .which) header (done (said-by request) (M·ReadableMemory .means (now (memory .entry))) (registered (now (registration .entry))))) r (now (reply .entry)) (now (reply .exit)) (M·ReadableMemory .means (now (memory .exit))) (registered (now (registration .exit))) ⌝ }
+    requires room { ⌜ 4096 ≤ length (now reply) ⌝ }
+    requires whole { ⌜ made (held (Ok request)) (Whole (C·WireCode .which)) ⌝ }
+    requires bounded { ⌜ made (held (Ok request)) (Bounded (M·ReadableMemory .means (now memory))) ⌝ }
+    requires passed { ⌜ Passed (M·ReadableMemory .means (now memory)) (said (C·WireCode .which) (Ok request)) ⌝ }
+    ensures came { λ r. ⌜ Came (answered (C·WireCode .which) header (M·ReadableMemory .means (now (memory .entry))) (registered (now (registration .entry))) (said (C·WireCode .which) (Ok (request .entry)))) r (now (reply .entry)) (now (reply .exit)) (M·ReadableMemory .means (now (memory .exit))) (registered (now (registration .exit))) ⌝ }
     ensures keeps { λ _. ⌜ M·ReadableMemory .keeps (now (memory .entry)) (now (memory .exit)) ⌝ }
 {
     match request {
@@ -123,6 +196,59 @@ fn carry_out<C: WireCode, M: WritableMemory>(
             number,
             points,
         } => show_words::<C, M>(reply, header, memory, device, number, points),
+        Request::WriteBits {
+            device,
+            number,
+            points,
+            data,
+            place: _,
+        } => {
+            put_bits::<C, M>(memory, device, number, points, data);
+            accept::<C>(reply, header)
+        }
+        Request::WriteWords {
+            device,
+            number,
+            points,
+            data,
+            place: _,
+        } => {
+            put_words::<C, M>(memory, device, number, points, data);
+            accept::<C>(reply, header)
+        }
+        Request::ReadRandom {
+            words,
+            doubles,
+            list,
+            place: _,
+        } => show_listed::<C, M>(reply, header, memory, &listed::<C>(list, words, doubles)),
+        Request::Register {
+            words,
+            doubles,
+            list,
+            place: _,
+        } => {
+            *registration = listed::<C>(list, words, doubles);
+            accept::<C>(reply, header)
+        }
+        Request::Monitor => show_registered::<C, M>(reply, header, memory, registration),
+        Request::WriteRandomBits {
+            count,
+            list,
+            place: _,
+        } => {
+            put_settings::<C, M>(memory, list, 0, count, Reach::Point);
+            accept::<C>(reply, header)
+        }
+        Request::WriteRandom {
+            words,
+            doubles,
+            list,
+            place: _,
+        } => {
+            put_random::<C, M>(memory, list, words, doubles);
+            accept::<C>(reply, header)
+        }
     }
 }
 

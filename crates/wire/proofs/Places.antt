@@ -23,7 +23,7 @@ set-sets out at p v (x ∷ xs) h =
     set-sets (set out at x) (suc at) p v xs (omega arith) ∙ ap (λ l. sets l (suc at) xs) (set-comm out at p x v other)
 
 -- a run behind another is one run
-pub sets-sets : (out : List ℕ) (at n : ℕ) (us vs : List ℕ) → length us ≡ n → sets (sets out at us) (at + n) vs ≡ sets out at (us ++ vs)
+pub sets-sets : {A : Type 0} (out : List A) (at n : ℕ) (us vs : List A) → length us ≡ n → sets (sets out at us) (at + n) vs ≡ sets out at (us ++ vs)
 sets-sets out at n [] vs e =
     let here : at + n ≡ at = omega arith in
     ap (λ k. sets out k vs) here

@@ -140,4 +140,12 @@ pub impl WireCode for Ascii as AsciiCode {
         out[at] = hex_char(value as u8);
         1
     }
+
+    fn read_half(bytes: &[u8], index: usize) -> Result<u8, FieldFault> {
+        digit(Notation::Hexadecimal, bytes[index], 0)
+    }
+
+    fn is_filled(_bytes: &[u8], _points: usize) -> bool {
+        true
+    }
 }

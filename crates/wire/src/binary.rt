@@ -130,4 +130,19 @@ pub impl WireCode for Binary as BinaryCode {
         out[at] = (16 * value) as u8;
         1
     }
+
+    fn read_half(bytes: &[u8], index: usize) -> Result<u8, FieldFault> {
+        let byte = bytes[index / 2];
+        if index % 2 == 0 {
+            return Ok(byte / 16);
+        }
+        Ok(byte % 16)
+    }
+
+    fn is_filled(bytes: &[u8], points: usize) -> bool {
+        if points % 2 == 0 {
+            return true;
+        }
+        bytes[points / 2] % 16 == 0
+    }
 }

@@ -8,7 +8,7 @@ ghost use Rattle.std.specs.Vec.{made};
 ghost use Rattle.std.specs.declared.result.Result.the-variants.{Ok};
 ghost use Rattle.wire.specs.declared.code.Code.{Code};
 ghost use Rattle.wire.specs.Numbers.{per-byte, number-in, encode};
-ghost use Rattle.wire.specs.Points.{bits-bytes, bits-size};
+ghost use Rattle.wire.specs.Points.{bits-bytes, bits-size, half-in, filled};
 ghost use Rattle.wire.specs.Fields.{device-in, encode-device, number-limit};
 use device::Device;
 
@@ -82,4 +82,14 @@ pub trait WireCode {
         requires { ⌜ value < 2 ⌝ ∗ ⌜ at + bits-size which 1 ≤ length (now out) ⌝ }
         ensures used { λ r. ⌜ r ≡ bits-size which 1 ⌝ }
         ensures written { λ _. ⌜ now (out .exit) ≡ sets (now (out .entry)) at (bits-bytes which (value ∷ [])) ⌝ };
+
+    // The digit of the point with this index among points in bits.
+    fn read_half(bytes: &[u8], index: usize) -> Result<u8, FieldFault>
+        requires { ⌜ bits-size which (index + 1) ≤ length (now bytes) ⌝ }
+        ensures { λ r. ⌜ r ≡ half-in which (now (bytes .entry)) index ⌝ };
+
+    // Whether an odd end of so many points in bits is filled by 0.
+    fn is_filled(bytes: &[u8], points: usize) -> bool
+        requires { ⌜ bits-size which points ≤ length (now bytes) ⌝ }
+        ensures { λ r. ⌜ r ≡ filled which (now (bytes .entry)) points ⌝ };
 }

@@ -1,0 +1,11 @@
+pub mod Opens
+pub mod Turns
+pub mod Lists
+pub mod Parts
+pub mod Judged
+pub mod Passed
+pub mod Halves
+pub mod Written
+pub mod Alike
+pub mod Past
+pub mod Accepted

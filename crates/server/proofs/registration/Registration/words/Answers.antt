@@ -1,0 +1,18 @@
+use mathlib.Core.Path.{_≡_, sym, ap, _∙_}
+use Prim.Native.Nat.{ℕ, _-_, _≤_}
+use native.Mathlib.Omega.{arith}
+use lib.ListN.{length, take, length-take}
+use Rattle.std.proofs.shelf.Lists.{take-map}
+use Rattle.server.specs.declared.registration.Access.{Access}
+use Rattle.device.specs.declared.types.Device.{Device}
+use Rattle.server.specs.Registered.{accesses}
+use Rattle.server.proofs.registration.Registration.words.Needs as need
+
+pub returns : need.returns
+returns c =
+    let s = c .args .self .now in
+    let all : s .words - 0 ≡ s .words = omega arith in
+    record {
+      value = ap (λ n. accesses (take n (s .entries))) all ∙ sym (take-map (λ (e : Access). (e .device, e .number)) (s .words) (s .entries));
+      few = simp length-take (omega arith);
+    }
