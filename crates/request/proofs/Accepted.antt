@@ -1,27 +1,25 @@
 -- What is known of a request that was accepted: its counts, its spans, and that each write of it is accepted by the memory.
-use mathlib.Core.Path.{_≡_, refl, sym, ap, _∙_}
-use mathlib.Core.Bool.{Bool, true, false, cond, _&&_}
+use mathlib.Core.Path.{_≡_, sym, ap, _∙_}
+use mathlib.Core.Bool.{true, _&&_}
 use mathlib.Core.List.{List, [], _∷_}
 use Prim.Native.Nat.{ℕ, zero, suc, _+_, _*_, _<_, _≤_}
 use native.Mathlib.Nat.{add-zero}
 use native.Mathlib.Omega.{arith}
 use borrow.Author.Tests.{leb-true, lt-ltb}
-use lib.Dec.{leb, ltb}
-use lib.ListN.{length, getD}
+use lib.Dec.{leb}
+use lib.ListN.{getD}
 use Rattle.std.specs.Vec.{made}
 use Rattle.std.specs.declared.result.Result.{Result}
 use Rattle.std.specs.declared.result.Result.the-variants.{Ok, Err}
 use Rattle.std.proofs.shelf.Tests.{and-parts}
 use Rattle.device.specs.declared.types.Device.{Device}
 use Rattle.device.specs.Devices.{kindOf}
-use Rattle.memory.specs.declared.refusal.Refusal.{Refusal}
-use Rattle.memory.specs.declared.refusal.Refusal.the-variants.{Outside, Closed, TooWide}
 use Rattle.memory.specs.Meaning.{Meaning, value-limit, write-answer}
 use Rattle.wire.specs.declared.code.Code.{Code}
 use Rattle.frame.specs.declared.fault.Fault.{Fault}
 use Rattle.request.specs.Fields.{bits-in}
-use Rattle.request.specs.Limits.{points, within, all-open, words-within, words-open, bits-ok, words-ok, random-ok, random-bits-ok, random-write-ok, all-bits}
-use Rattle.request.specs.Requests.{Access, Setting, Asked, read-bits, read-words, write-bits, write-words, random-read, register, monitor, random-bits, random-write}
+use Rattle.request.specs.Limits.{points, within, all-open, words-within, bits-ok, words-ok, random-ok, random-bits-ok, random-write-ok, all-bits}
+use Rattle.request.specs.Requests.{Access, Setting, Asked, read-bits, read-words, write-bits, random-read, register, random-bits, random-write}
 use Rattle.request.specs.Verdicts.{Test, chain, access-tests, setting-tests, bit-setting-tests, tests, verdict}
 use Rattle.request.specs.Writing.{Each}
 use Rattle.request.specs.Readings.{Held, held-read-bits, held-read-words, held-write-bits, held-write-words, held-random-read, held-register, held-monitor, held-random-bits, held-random-write, asked, asked-of, Whole}

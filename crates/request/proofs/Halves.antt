@@ -1,18 +1,17 @@
 -- Points in bits that were written read as themselves, in either code.
 use mathlib.Core.Path.{_≡_, refl, sym, ap, _∙_}
-use mathlib.Core.Bool.{Bool, true, false, cond}
+use mathlib.Core.Bool.{true}
 use mathlib.Core.List.{List, [], _∷_, _++_}
-use Prim.Native.Nat.{ℕ, zero, suc, _+_, _*_, _/_, _%_, _<_, _≤_}
+use Prim.Native.Nat.{ℕ, zero, suc, _+_, _*_, _/_, _%_, _<_}
 use native.Mathlib.Nat.{add-zero}
 use native.Mathlib.Omega.{arith}
-use lib.Dec.{eqb}
 use lib.ListN.{length, getD}
 use Rattle.std.specs.declared.result.Result.{Result}
-use Rattle.std.specs.declared.result.Result.the-variants.{Ok, Err}
+use Rattle.std.specs.declared.result.Result.the-variants.{Ok}
 use Rattle.device.specs.declared.types.Notation.the-variants.{Hexadecimal}
 use Rattle.wire.specs.declared.code.Code.{Code}
 use Rattle.wire.specs.declared.code.Code.the-variants.{Binary, Ascii}
-use Rattle.wire.specs.Numbers.{then, digit-of, hex-char}
+use Rattle.wire.specs.Numbers.{then}
 use Rattle.wire.specs.Points.{half-bytes, digit-each, bits-bytes, bits-size, half-in, filled}
 use Rattle.wire.proofs.Numbers.{digit-back}
 use Rattle.frame.specs.declared.fault.Fault.{Fault}

@@ -1,7 +1,7 @@
 -- A request with lists asks, as it is held, what the walk reads; and what it holds has all of its entries.
 use mathlib.Core.Path.{_≡_, refl, sym, ap, _∙_}
 use mathlib.Core.Bool.{Bool, true, false, cond}
-use mathlib.Core.List.{List, [], _∷_}
+use mathlib.Core.List.{List}
 use Prim.Native.Nat.{ℕ, _+_, _*_}
 use lib.Dec.{leb}
 use lib.ListN.{length, drop}
@@ -19,10 +19,10 @@ use Rattle.frame.specs.Faults.{fault}
 use Rattle.request.specs.Fields.{number-at, counts-at, list-end, list-in, ends}
 use Rattle.request.specs.Limits.{random-ok, random-bits-ok, random-write-ok}
 use Rattle.request.specs.Walks.{Walk, done, run, list}
-use Rattle.request.specs.Requests.{Access, Setting, Asked, random-read, register, random-bits, random-write, Random-read, Random-bits, Random-write, access, setting, bit-setting, judged}
+use Rattle.request.specs.Requests.{Asked, random-read, register, random-bits, random-write, Random-read, Random-bits, Random-write, access, setting, bit-setting, judged}
 use Rattle.request.specs.Requests.{Register as Registering}
 use Rattle.request.specs.Entries.{access-at, access-in, setting-at, setting-in, bit-setting-at}
-use Rattle.request.specs.Readings.{Held, held-random-read, held-register, held-random-bits, held-random-write, asked, asked-of, Whole}
+use Rattle.request.specs.Readings.{Held, held-random-read, held-register, held-random-write, asked, asked-of, Whole}
 use Rattle.request.specs.Lists.{two-lists, random-list, write-list, bits-list, holding, holding-bits}
 use Rattle.request.proofs.Lists.{Entry, walked, free-list, end-is}
 use Rattle.request.proofs.Turns.{all-there}

@@ -21,7 +21,7 @@ use Rattle.wire.proofs.RoundTrip.{number-used, device-used}
 use Rattle.frame.specs.declared.fault.Cause.the-variants.{OutsideExtent, WrongKind, ClosedPoint, BadValue}
 use Rattle.frame.specs.declared.fault.Fault.{Fault}
 use Rattle.frame.specs.Faults.{fault}
-use Rattle.request.specs.Fields.{placed, number-at, value-at}
+use Rattle.request.specs.Fields.{placed, value-at}
 use Rattle.request.specs.Limits.{is-bit, within, all-open, words-within, words-open}
 use Rattle.request.specs.Walks.{Walk, run}
 use Rattle.request.specs.Requests.{Access, Setting, access, setting, bit-setting}

@@ -19,7 +19,7 @@ use Rattle.frame.specs.declared.fault.Fault.{Fault}
 use Rattle.frame.specs.Faults.{fault}
 use Rattle.request.specs.Fields.{number-at, counts-at, device-at, present, value-at, list-end, list-in, words-at, half-at, bits-in, bits-at}
 use Rattle.request.specs.Walks.{Walk, done, number, counts, device, words, bits, at-field, at-device, run, list}
-use Rattle.request.specs.Requests.{Access, Setting, Asked, read-bits, read-words, write-bits, write-words, random-read, register, monitor, random-bits, random-write, Command, Read-bits, Read-words, Write-bits, Write-words, Random-read, Register, Monitor, Random-bits, Random-write, access, setting, bit-setting, walk}
+use Rattle.request.specs.Requests.{Access, Setting, Asked, Command, Read-bits, Read-words, Write-bits, Write-words, Random-read, Register, Monitor, Random-bits, Random-write, access, setting, bit-setting, walk}
 use Rattle.request.specs.Verdicts.{Test, judge, chain, access-tests, setting-tests, bit-setting-tests, tests, verdict}
 use Rattle.request.specs.Writing.{Each}
 use Rattle.request.specs.Laws.{Access-ok, Setting-ok, Bit-setting-ok}

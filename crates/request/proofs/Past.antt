@@ -1,14 +1,12 @@
 -- Past the end of the bytes nothing can be read.
 use mathlib.Core.Path.{_≡_, refl, ap, _∙_}
 use mathlib.Core.List.{List, [], _∷_}
-use Prim.Native.Nat.{ℕ, zero, suc, _≤_, _<_}
+use Prim.Native.Nat.{ℕ, zero, suc, _<_}
 use native.Mathlib.Omega.{arith}
 use lib.ListN.{length, drop}
-use Rattle.std.specs.declared.result.Result.{Result}
-use Rattle.std.specs.declared.result.Result.the-variants.{Ok, Err}
+use Rattle.std.specs.declared.result.Result.the-variants.{Err}
 use Rattle.wire.specs.declared.code.Code.{Code}
 use Rattle.wire.specs.declared.code.Code.the-variants.{Binary, Ascii}
-use Rattle.wire.specs.declared.code.FieldFault.{FieldFault}
 use Rattle.wire.specs.declared.code.FieldFault.the-variants.{Missing}
 use Rattle.wire.specs.Numbers.{number-in}
 use Rattle.request.specs.Entries.{access-in, setting-in}

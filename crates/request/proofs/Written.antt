@@ -1,26 +1,24 @@
 -- A field that was written at a place reads as itself, in either code.
 use mathlib.Core.Path.{_≡_, refl, sym, ap, _∙_}
-use mathlib.Core.Bool.{Bool, true, false, cond}
+use mathlib.Core.Bool.{cond}
 use mathlib.Core.List.{List, [], _∷_, _++_, append-assoc}
-use Prim.Native.Nat.{ℕ, zero, suc, _+_, _*_, _^_, _<_, _≤_}
+use Prim.Native.Nat.{ℕ, suc, _+_, _*_, _^_, _<_, _≤_}
 use native.Mathlib.Nat.{add-mul}
 use native.Mathlib.Omega.{arith}
 use borrow.Author.Tests.{le-leb}
 use lib.ListN.{length, drop, length-append, length-drop}
 use lib.Seq.{drop-at, drop-drop}
-use Rattle.std.specs.declared.result.Result.{Result}
 use Rattle.std.specs.declared.result.Result.the-variants.{Ok, Err}
 use Rattle.device.specs.declared.types.Device.{Device}
 use Rattle.wire.specs.declared.code.Code.{Code}
-use Rattle.wire.specs.Numbers.{then, per-byte, number-in, encode}
+use Rattle.wire.specs.Numbers.{per-byte, number-in, encode}
 use Rattle.wire.specs.Fields.{encode-device, number-limit}
-use Rattle.wire.specs.Points.{bits-bytes, bits-size, filled}
-use Rattle.wire.proofs.RoundTrip.{length-encode, length-device}
+use Rattle.wire.specs.Points.{bits-bytes, bits-size}
+use Rattle.wire.proofs.RoundTrip.{length-encode}
 use Rattle.wire.proofs.RoundTrip as wire
-use Rattle.frame.specs.declared.fault.Cause.the-variants.{BadSize, BadValue}
-use Rattle.frame.specs.declared.fault.Fault.{Fault}
+use Rattle.frame.specs.declared.fault.Cause.the-variants.{BadSize}
 use Rattle.frame.specs.Faults.{fault}
-use Rattle.request.specs.Fields.{present, number-at, device-at, counts-at, value-at, list-end, list-in, words-at, half-at, bits-in, bits-at}
+use Rattle.request.specs.Fields.{present, number-at, device-at, counts-at, value-at, list-end, list-in, words-at, bits-at}
 use Rattle.request.specs.Writing.{write-values, Each}
 use Rattle.request.proofs.Halves.{length-bits-bytes, filled-back, halves-end, halves-back}
 

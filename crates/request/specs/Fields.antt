@@ -1,6 +1,6 @@
 -- The fields of a request's data, at their places in the frame.
 -- A field is tested for presence, then for its digits, then for its value.
-use mathlib.Core.Bool.{Bool, true, false, cond}
+use mathlib.Core.Bool.{cond}
 use mathlib.Core.List.{List, [], _∷_}
 use Prim.Native.Nat.{ℕ, zero, suc, _+_, _*_}
 use lib.Dec.{leb}

@@ -2,21 +2,19 @@
 use mathlib.Core.Bool.{Bool, cond}
 use mathlib.Core.List.{List}
 use Prim.Native.Nat.{ℕ, _+_}
-use lib.Dec.{leb}
-use lib.ListN.{length, drop}
+use lib.ListN.{drop}
 use Rattle.std.specs.declared.result.Result.{Result}
 use Rattle.std.specs.declared.result.Result.the-variants.{Ok, Err}
 use Rattle.memory.specs.Meaning.{Meaning}
 use Rattle.wire.specs.declared.code.Code.{Code}
 use Rattle.wire.specs.Numbers.{then}
-use Rattle.frame.specs.declared.fault.Cause.{Cause}
 use Rattle.frame.specs.declared.fault.Cause.the-variants.{RandomBitCount, RandomCount}
 use Rattle.frame.specs.declared.fault.Fault.{Fault}
 use Rattle.frame.specs.Faults.{fault}
 use Rattle.request.specs.Fields.{number-at, counts-at, list-end, ends}
 use Rattle.request.specs.Limits.{random-ok, random-bits-ok, random-write-ok}
 use Rattle.request.specs.Entries.{access-at, setting-at, bit-setting-at}
-use Rattle.request.specs.Readings.{Held, held-random-read, held-register, held-random-bits, held-random-write}
+use Rattle.request.specs.Readings.{Held, held-random-bits}
 
 -- two counts that pass a test, and two lists behind them to the end of the frame: the counts, and where the lists begin
 abbrev pub two-lists : {X : Type 0} → Code → List ℕ → ℕ → (ℕ → ℕ → Bool) → (ℕ → Result (X × ℕ) Fault) → (ℕ → Result (X × ℕ) Fault) → Result (ℕ × ℕ × ℕ) Fault

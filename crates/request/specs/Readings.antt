@@ -1,28 +1,25 @@
 -- What a request that was read asks.
-use mathlib.Core.Bool.{Bool, cond}
+use mathlib.Core.Bool.{Bool}
 use mathlib.Core.Path.{_≡_}
 use mathlib.Core.List.{List}
-use Prim.Native.Nat.{ℕ, _+_, _*_, _≤_}
-use lib.Dec.{leb}
+use Prim.Native.Nat.{ℕ, _*_, _≤_}
 use lib.ListN.{length, drop}
 use Rattle.std.specs.declared.result.Result.{Result}
 use Rattle.std.specs.declared.result.Result.the-variants.{Ok, Err}
 use Rattle.device.specs.declared.types.Device.{Device}
 use Rattle.memory.specs.Meaning.{Meaning}
 use Rattle.wire.specs.declared.code.Code.{Code}
-use Rattle.wire.specs.Numbers.{then, per-byte, number-in}
+use Rattle.wire.specs.Numbers.{per-byte, number-in}
 use Rattle.wire.specs.Points.{bits-size}
 use Rattle.frame.specs.declared.fault.Cause.{Cause}
-use Rattle.frame.specs.declared.fault.Cause.the-variants.{RandomBitCount, RandomCount, BadSize}
 use Rattle.frame.specs.declared.fault.Fault.{Fault}
 use Rattle.frame.specs.declared.header.Header.{Header}
 use Rattle.frame.specs.Faults.{fault}
 use Rattle.request.specs.declared.types.Request.{Request}
 use Rattle.request.specs.declared.types.Request.the-variants.{ReadBits, ReadWords, WriteBits, WriteWords, ReadRandom, Register, Monitor, WriteRandomBits, WriteRandom}
-use Rattle.request.specs.Fields.{number-at, counts-at, list-end, list-in, bits-in}
-use Rattle.request.specs.Limits.{random-ok, random-bits-ok, random-write-ok}
+use Rattle.request.specs.Fields.{list-in, bits-in}
 use Rattle.request.specs.Requests.{Asked, read-bits, read-words, write-bits, write-words, random-read, register, monitor, random-bits, random-write, Command, command-of, judged}
-use Rattle.request.specs.Entries.{access-at, access-in, setting-at, setting-in, bit-setting-at}
+use Rattle.request.specs.Entries.{access-in, setting-in}
 
 -- a request that was read, with the bytes that it holds of the frame and their place
 pub data Held : Type 0 where

@@ -1,10 +1,9 @@
 // Batches: so many points or words from one number on.
 ghost use mathlib.Core.Path.{_≡_};
-ghost use Prim.Native.Nat.{ℕ, _+_, _*_, _^_, _<_, _≤_};
+ghost use Prim.Native.Nat.{_+_, _*_, _^_, _<_, _≤_};
 ghost use lib.ListN.{length, drop};
-ghost use mathlib.Core.Bool.{Bool, true, false};
 ghost use Rattle.std.specs.Vec.{made};
-ghost use Rattle.wire.specs.Numbers.{per-byte, number-in};
+ghost use Rattle.wire.specs.Numbers.{number-in};
 ghost use Rattle.wire.specs.Points.{bits-size, half-in};
 ghost use Rattle.request.specs.Fields.{placed, value-at, half-at, list-end, list-in, bits-in};
 ghost use Rattle.request.specs.Limits.{all-bits};

@@ -1,6 +1,6 @@
 // What stands in the bytes that a request holds, entry by entry. Each reader has an answer for any bytes.
 ghost use mathlib.Core.Path.{_≡_};
-ghost use Prim.Native.Nat.{ℕ, _+_, _-_, _*_, _^_, _<_, _≤_};
+ghost use Prim.Native.Nat.{_+_, _^_, _<_, _≤_};
 ghost use lib.ListN.{length, drop};
 ghost use Rattle.std.specs.Vec.{made};
 ghost use Rattle.wire.specs.Numbers.{number-in};

@@ -1,9 +1,8 @@
 // The fields of a request's data.
 ghost use mathlib.Core.Path.{_≡_};
-ghost use Prim.Native.Nat.{ℕ, _+_, _-_, _*_, _^_, _<_, _≤_};
+ghost use Prim.Native.Nat.{_+_, _-_, _^_, _<_, _≤_};
 ghost use lib.ListN.{length, drop};
 ghost use Rattle.std.specs.Vec.{made};
-ghost use Rattle.wire.specs.Numbers.{per-byte};
 ghost use Rattle.request.specs.Fields.{data-fault, number-at, device-at, present, counts-at, ends};
 use device::Device;
 use frame::Cause;

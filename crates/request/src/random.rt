@@ -1,7 +1,7 @@
 // Lists of entries, each with a device and a number of its own.
 ghost use mathlib.Core.Path.{_≡_};
-ghost use Prim.Native.Nat.{ℕ, _+_, _*_, _^_, _<_, _≤_};
-ghost use lib.ListN.{length, drop};
+ghost use Prim.Native.Nat.{_+_, _*_, _<_, _≤_};
+ghost use lib.ListN.{length};
 ghost use Rattle.std.specs.Vec.{made};
 ghost use Rattle.request.specs.Fields.{list-end};
 ghost use Rattle.request.specs.Requests.{Random-read, Random-write, Random-bits, judged};

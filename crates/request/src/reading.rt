@@ -1,8 +1,7 @@
 // Which command a frame carries, and the reader of its data.
 ghost use mathlib.Core.Path.{_≡_};
-ghost use mathlib.Core.Bool.{Bool, true, false};
-ghost use Prim.Native.Nat.{ℕ, _+_, _*_, _^_, _<_, _≤_};
-ghost use lib.ListN.{length, drop};
+ghost use Prim.Native.Nat.{_≤_};
+ghost use lib.ListN.{length};
 ghost use Rattle.std.specs.Vec.{made};
 ghost use Rattle.request.specs.Requests.{judged};
 ghost use Rattle.request.specs.Requests.{Monitor as Monitoring};

@@ -1,6 +1,6 @@
 // The points that a request reaches, tested over the memory.
 ghost use mathlib.Core.Path.{_≡_};
-ghost use Prim.Native.Nat.{ℕ, _+_, _*_, _^_, _<_, _≤_};
+ghost use Prim.Native.Nat.{_+_, _*_, _^_, _<_, _≤_};
 ghost use Rattle.request.specs.Limits.{points, within, all-open};
 use device::Device;
 use device::Kind;

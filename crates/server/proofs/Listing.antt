@@ -25,29 +25,6 @@ use Rattle.request.specs.Fields.{list-in, while-read, bit-in, bits-in}
 use Rattle.request.specs.Limits.{points}
 use Rattle.server.specs.Writes.{Write, as-point, in-row, as-word, as-words, each}
 
-module _ {X : Type 0} (r : List ℕ → Result (X × ℕ) FieldFault) (xs : List ℕ) (count i at : ℕ) (below : i < count) where
-  step : list-in r (count - i) (drop at xs) ≡ while-read (r (drop at xs)) (λ a. a .0 ∷ list-in r (count - (i + 1)) (drop (a .1) (drop at xs)))
-  step =
-      let one : count - i ≡ count - (i + 1) + 1 = omega arith in
-      rw (one, add-one (count - (i + 1)))
-
-  -- an entry that was read, and the rest behind it
-  pub entry-read : (a : X × ℕ) → r (drop at xs) ≡ Ok a → list-in r (count - i) (drop at xs) ≡ a .0 ∷ list-in r (count - (i + 1)) (drop (at + a .1) xs)
-  entry-read a e =
-      step
-      ∙ ap (λ y. while-read y (λ a. a .0 ∷ list-in r (count - (i + 1)) (drop (a .1) (drop at xs)))) e
-      ∙ ap (λ l. a .0 ∷ list-in r (count - (i + 1)) l) (drop-drop (a .1) at xs)
-
-  -- an entry that cannot be read ends the list
-  pub entry-none : (f : FieldFault) → r (drop at xs) ≡ Err f → list-in r (count - i) (drop at xs) ≡ []
-  entry-none f e = step ∙ ap (λ y. while-read y (λ a. a .0 ∷ list-in r (count - (i + 1)) (drop (a .1) (drop at xs)))) e
-
--- no entry is left
-pub entries-done : {X : Type 0} (r : List ℕ → Result (X × ℕ) FieldFault) (xs : List ℕ) (count i : ℕ) → count ≤ i → list-in r (count - i) xs ≡ []
-entries-done r xs count i h =
-    let none : count - i ≡ 0 = omega arith in
-    ap (λ k. list-in r k xs) none
-
 -- one point more of bit data
 pub bits-more : (code : Code) (xs : List ℕ) (d : Device) (n count i : ℕ) → i < count
     → as-point d (n + i) (bit-in code xs i) ++ in-row d (n + (i + 1)) (bits-in code xs (i + 1) (count - (i + 1))) ≡ in-row d (n + i) (bits-in code xs i (count - i))
@@ -60,47 +37,11 @@ bits-more code xs d n count i h =
 pub words-more : (d : Device) (n v : ℕ) (vs ws : List ℕ) → ws ≡ v ∷ vs → as-word d n v ++ as-words d (n + points (kindOf d) 1) vs ≡ as-words d n ws
 words-more d n v vs ws e = ap (as-words d n) (sym e)
 
--- a setting, by the reading of its device field and of its value
-module _ (code : Code) (size : ℕ) (xs : List ℕ) (at : ℕ) (a : Device × ℕ × ℕ) (e : device-in code (drop at xs) ≡ Ok a) where
-  behind : {v : Result (ℕ × ℕ) FieldFault} → number-in code size (drop (at + a .2) xs) ≡ v → setting-in code size (drop at xs) ≡ then v (λ v. Ok (((a .0, a .1), v .0), a .2 + v .1))
-  behind f =
-      ap (λ y. then y (λ a. then (number-in code size (drop (a .2) (drop at xs))) (λ v. Ok (((a .0, a .1), v .0), a .2 + v .1)))) e
-      ∙ ap (λ y. then y (λ v. Ok (((a .0, a .1), v .0), a .2 + v .1))) (ap (number-in code size) (drop-drop (a .2) at xs) ∙ f)
-
-  pub setting-reads : (v : ℕ × ℕ) → number-in code size (drop (at + a .2) xs) ≡ Ok v → setting-in code size (drop at xs) ≡ Ok (((a .0, a .1), v .0), a .2 + v .1)
-  setting-reads v f = behind f
-
-  pub setting-fails : (f : FieldFault) → number-in code size (drop (at + a .2) xs) ≡ Err f → setting-in code size (drop at xs) ≡ Err f
-  setting-fails f g = behind g
-
 -- one setting more of a list
 pub each-more : (f : Device → ℕ → ℕ → List Write) (s : Setting) (ss all : List Setting) → all ≡ s ∷ ss → f (s .0 .0) (s .0 .1) (s .1) ++ each f ss ≡ each f all
 each-more f s ss all e = ap (each f) (sym e)
 
--- an access, by the reading of its device field
-pub access-reads : (code : Code) (xs : List ℕ) (a : Device × ℕ × ℕ) → device-in code xs ≡ Ok a → access-in code xs ≡ Ok ((a .0, a .1), a .2)
-access-reads code xs a e = ap (λ y. then y (λ a. Ok ((a .0, a .1), a .2))) e
-
-pub access-fails : (code : Code) (xs : List ℕ) (f : FieldFault) → device-in code xs ≡ Err f → access-in code xs ≡ Err f
-access-fails code xs f e = ap (λ y. then y (λ a. Ok ((a .0, a .1), a .2))) e
-
-nothing : (code : Code) → access-in code [] ≡ Err Missing
-nothing Binary = refl
-nothing Ascii = refl
-
--- behind the end of a list no access is read
-pub none-behind : (code : Code) (n : ℕ) → list-in (access-in code) n [] ≡ []
-none-behind code zero = refl
-none-behind code (suc n) = ap (λ y. while-read y (λ a. a .0 ∷ list-in (access-in code) n (drop (a .1) []))) (nothing code)
-
-pub no-settings : (code : Code) (size n : ℕ) → list-in (setting-in code size) n [] ≡ []
-no-settings code size zero = refl
-no-settings code size (suc n) = ap (λ y. while-read y (λ a. a .0 ∷ list-in (setting-in code size) n (drop (a .1) []))) (none code)
-  where
-    none : (c : Code) → setting-in c size [] ≡ Err Missing
-    none Binary = refl
-    none Ascii = refl
-
+-- an access that is put among others
 pub accesses-set : (es : List Access) (k : ℕ) (a : Access) → accesses (set es k a) ≡ set (accesses es) k (a .device, a .number)
 accesses-set [] zero a = refl
 accesses-set [] (suc k) a = refl

@@ -3,8 +3,7 @@ ghost use mathlib.Core.Path.{_≡_};
 ghost use Prim.Native.Nat.{ℕ, _+_, _*_, _/_, _%_, _^_, _<_, _≤_};
 ghost use mathlib.Core.List.{_++_};
 ghost use Rattle.wire.specs.Numbers.{per-byte, number-in};
-ghost use Rattle.std.specs.Vec.{made};
-ghost use lib.ListN.{length, drop};
+ghost use lib.ListN.{drop};
 ghost use Rattle.request.specs.Entries.{setting-in};
 ghost use Rattle.request.specs.Writing.{Each};
 ghost use Rattle.request.specs.Fields.{list-in, bits-in};
@@ -15,9 +14,8 @@ use device::Kind;
 use memory::ReadableMemory;
 use memory::WritableMemory;
 use request::bit_at;
-use wire::FieldFault;
+use request::setting_at;
 use wire::WireCode;
-use wire::device_at;
 use wire::number_at;
 
 // What one setting of a list reaches, and so how many bytes its value has: 1, 2 or 4.
@@ -133,21 +131,6 @@ pub(crate) fn put_words<C: WireCode, M: WritableMemory>(
     }
 }
 
-// One setting of a list, with a value of `size` bytes: the device, the number, the value, and the wire bytes it used.
-fn setting_at<C: WireCode>(
-    list: &[u8],
-    at: usize,
-    size: usize,
-) -> Result<(((Device, u32), u32), usize), FieldFault>
-    requires { ⌜ size ≤ 4 ⌝ ∗ ⌜ at ≤ length (now list) ⌝ }
-    ensures value { λ r. ⌜ r ≡ setting-in (C·WireCode .which) size (drop at (now (list .entry))) ⌝ }
-    ensures within { λ r. ⌜ made r (λ s. (at + s .1 ≤ length (now (list .entry))) × (s .0 .0 .1 < 2 ^ 24) × (s .0 .1 < 256 ^ size)) ⌝ }
-{
-    let (device, number, used) = device_at::<C>(list, at)?;
-    let (value, more) = number_at::<C>(list, at + used, size)?;
-    Ok((((device, number), value), used + more))
-}
-
 // Gives an access a value.
 fn put_access<M: WritableMemory>(
     memory: &mut M,
@@ -179,9 +162,6 @@ pub(crate) fn put_settings<C: WireCode, M: WritableMemory>(
     ensures keeps { λ _. ⌜ M·ReadableMemory .keeps (now (memory .entry)) (now (memory .exit)) ⌝ }
     ensures small { λ _. ⌜ Each (λ s. s .1 < 256 ^ size-of reach) (list-in (setting-in (C·WireCode .which) (size-of reach)) count (drop from (now (list .entry)))) ⌝ }
 {
-    if from > list.len() {
-        return;
-    }
     let mut place = from;
     for i in 0..count {
         match setting_at::<C>(list, place, reach.size()) {

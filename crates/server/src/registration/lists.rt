@@ -11,21 +11,18 @@ ghost use Rattle.server.specs.Registered.{accesses, registered, words-in, doub
 use super::Access;
 use super::Registration;
 use device::Device;
+use request::access_at;
 use wire::WireCode;
-use wire::device_at;
 
 // Puts so many accesses of a list, from a place in it on, into the entries from `at` on.
 fn fill<C: WireCode>(entries: &mut [Access], at: usize, list: &[u8], from: usize, count: usize)
     requires { ⌜ at + count ≤ length (now entries) ⌝ }
     ensures { λ _. ⌜ accesses (now (entries .exit)) ≡ sets (accesses (now (entries .entry))) at (list-in (access-in (C·WireCode .which)) count (drop from (now (list .entry)))) ⌝ }
 {
-    if from > list.len() {
-        return;
-    }
     let mut place = from;
     for i in 0..count {
-        match device_at::<C>(list, place) {
-            Ok((device, number, used)) => {
+        match access_at::<C>(list, place) {
+            Ok(((device, number), used)) => {
                 entries[at + i] = Access { device, number };
                 place += used;
             }

@@ -8,7 +8,8 @@ use Rattle.request.specs.Fields.{list-in}
 use Rattle.request.specs.Writing.{Each}
 use Rattle.server.specs.Writes.{tried, as-word, as-words}
 use Rattle.server.proofs.Trying.{tried-none, tried-more}
-use Rattle.server.proofs.Listing.{entry-read, entry-none, entries-done, words-more}
+use Rattle.request.proofs.Turns.{in-goes-on, in-stops, in-none-left}
+use Rattle.server.proofs.Listing.{words-more}
 use Rattle.server.proofs.storing.put_words.Needs as need
 
 pub returns-in-Err : need.returns-in-Err
@@ -17,7 +18,7 @@ returns-in-Err g c =
     let l = c .loop-i in
     let m = g .M·ReadableMemory .means (l .memory) in
     let r = number-in (g .C·WireCode .which) 2 in
-    let none = entry-none r (x .bytes .now) (x .count) (l .i) (l .place) (omega arith) _ (sym (c .in-Err .ensures tt .value)) in
+    let none = in-stops r (x .bytes .now) (x .count) (l .i) (l .place) (omega arith) _ (sym (c .in-Err .ensures tt .value)) in
     record {
       means = sym (ap (λ vs. tried m (as-words (x .device) (l .next) vs)) none ∙ tried-none m) ∙ l .inv .0;
       keeps = l .inv .1;
@@ -30,7 +31,7 @@ loop-i-again g c =
     let l = c .loop-i in
     let m = g .M·ReadableMemory .means in
     let r = number-in (g .C·WireCode .which) 2 in
-    let got = entry-read r (x .bytes .now) (x .count) (l .i) (l .place) (omega arith) _ (sym (c .in-Ok .ensures tt .value)) in
+    let got = in-goes-on r (x .bytes .now) (x .count) (l .i) (l .place) (omega arith) _ (sym (c .in-Ok .ensures tt .value)) in
     let rest = list-in r (x .count - (l .i + 1)) (drop (l .place + c .in-Ok .used) (x .bytes .now)) in
     let w = c .in-Ok .ensures tt .within in (
       ap (λ k. tried (m (c .put-word .last .memory)) (as-words (x .device) (l .next + k) rest)) (c .word-points .ensures .value)
@@ -47,7 +48,7 @@ returns g c =
     let x = c .args in
     let l = c .loop-i in
     let m = g .M·ReadableMemory .means (l .memory) in
-    let none = entries-done (number-in (g .C·WireCode .which) 2) (drop (l .place) (x .bytes .now)) (x .count) (l .i) (omega arith) in
+    let none = in-none-left (number-in (g .C·WireCode .which) 2) (drop (l .place) (x .bytes .now)) (x .count) (l .i) (omega arith) in
     record {
       means = sym (ap (λ vs. tried m (as-words (x .device) (l .next) vs)) none ∙ tried-none m) ∙ l .inv .0;
       keeps = l .inv .1;

@@ -1,6 +1,6 @@
-use Prim.Native.Nat.{_+_, _-_, _≤_}
+use Prim.Native.Nat.{_+_, _-_}
 use mathlib.Core.Path.{_≡_}
-use lib.ListN.{length, drop}
+use lib.ListN.{drop}
 use lib.Seq.{sets}
 use Rattle.request.specs.Fields.{list-in}
 use Rattle.request.specs.Entries.{access-in}
@@ -10,5 +10,4 @@ use Rattle.server.proofs.registration.lists.fill.Given as given
 abbrev pub Inv-loop-i : given.InvT-loop-i
 Inv-loop-i g l =
     let r = access-in (g .C·WireCode .which) in
-    (sets (accesses (l .entries)) (l .at + l .i) (list-in r (l .count - l .i) (drop (l .place) (l .list))) ≡ sets (accesses (l .entry .entries)) (l .at) (list-in r (l .count) (drop (l .from) (l .list))))
-    × (l .place ≤ length (l .list))
+    sets (accesses (l .entries)) (l .at + l .i) (list-in r (l .count - l .i) (drop (l .place) (l .list))) ≡ sets (accesses (l .entry .entries)) (l .at) (list-in r (l .count) (drop (l .from) (l .list)))
