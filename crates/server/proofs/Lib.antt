@@ -4,3 +4,4 @@ pub mod Trying
 pub mod Telling
 pub mod Listing
 pub mod Taken
+pub mod Upheld

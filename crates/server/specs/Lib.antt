@@ -4,3 +4,4 @@ pub mod Writes
 pub mod Registered
 pub mod Answers
 pub mod Serves
+pub mod Laws

@@ -14,6 +14,7 @@ ghost use Rattle.std.specs.Vec.{made};
 ghost use Rattle.std.specs.declared.result.Result.the-variants.{Ok};
 ghost use Rattle.request.specs.Laws.{Bounded, Passed};
 ghost use Rattle.request.specs.Readings.{held, said, Whole, request-in};
+ghost use Rattle.server.specs.Laws.{Faults-move-nothing, Space-kept};
 ghost use Rattle.server.specs.Serves.{Tells, Came, shown, monitored, late-fault, answered, served};
 use crate::points::Width;
 use crate::registration::Registration;
@@ -313,6 +314,8 @@ pub fn take_frame<M: WritableMemory>(
 ) -> Answer
     ensures came { λ r. ⌜ Came (served code (now (frame .entry)) (length (now (reply .entry))) (M·ReadableMemory .means (now (memory .entry))) (now (settings .entry) .«write_flag») (registered (now (registration .entry)))) r (now (reply .entry)) (now (reply .exit)) (M·ReadableMemory .means (now (memory .exit))) (registered (now (registration .exit))) ⌝ }
     ensures keeps { λ _. ⌜ M·ReadableMemory .keeps (now (memory .entry)) (now (memory .exit)) ⌝ }
+    ensures faults { λ r. ⌜ Faults-move-nothing r (M·ReadableMemory .means (now (memory .entry))) (registered (now (registration .entry))) (M·ReadableMemory .means (now (memory .exit))) (registered (now (registration .exit))) ⌝ }
+    ensures space { λ r. ⌜ Space-kept r (now (reply .entry)) (now (reply .exit)) ⌝ }
 {
     match code {
         Code::Binary => serve::<Binary, M>(frame, reply, memory, settings, registration),

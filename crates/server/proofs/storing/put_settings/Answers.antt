@@ -46,7 +46,7 @@ loop-i-again g c =
       tried-more (m (l .memory)) (m (c .put-access .last .memory)) (as-reach (x .reach) (q .device) (q .number) (q .value)) _ (c .put-access .ensures .means)
           (ap (tried (m (l .memory))) (each-more (as-reach (x .reach)) ((q .device, q .number), q .value) rest _ got) ∙ l .inv .0),
       g .M·ReadableMemory .sound .kept-on _ _ _ (l .inv .1) (c .put-access .ensures .keeps),
-       (λ e. l .inv .2 (subst (Each (λ s. s .1 < 256 ^ size-of (x .reach))) (sym got) (ap-small (c .size .ensures .value) (q .ensures tt .within .2), e))),
+      (λ e. l .inv .2 (subst (Each (λ s. s .1 < 256 ^ size-of (x .reach))) (sym got) (ap-small (c .size .ensures .value) (q .ensures tt .within .2), e))),
     )
 
 pub returns : need.returns
