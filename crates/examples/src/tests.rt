@@ -6,9 +6,18 @@ use frame::CausePartialEq;
 use frame::Fault;
 use frame::FaultDebug;
 use frame::FaultPartialEq;
+use memory::ByteImage;
+use memory::ImageReadable;
+use memory::ImageWritable;
+use memory::LentReadable;
+use memory::LentWritable;
+use memory::Locked;
+use memory::LockedReadable;
+use memory::LockedWritable;
 use memory::PackedReadable;
 use memory::PackedTables;
 use memory::PackedWritable;
+use memory::Range;
 use memory::ReadableMemory;
 use memory::Refusal;
 use memory::RefusalDebug;
@@ -221,4 +230,75 @@ fn packed_tables_and_what_they_keep() -> Result<(), Fail> {
     check_eq(words, [0xFFFF, 0xFFFD, 5, 0xFFFF])?;
     extents[Device::D.place()] = 65537;
     check_eq(memory::fits(100000, &extents), Err(Refusal::NoRoom))
+}
+
+// An image with 16 points of D and 16 of M.
+fn small_extents() -> [u32; 12] {
+    let mut extents = [0u32; 12];
+    extents[Device::M.place()] = 16;
+    extents[Device::D.place()] = 16;
+    extents
+}
+
+#[test]
+fn writes_in_one_code_read_in_the_other() -> Result<(), Fail> {
+    let mut bytes = [0x80u8; 50];
+    let mut image = ByteImage::new(&mut bytes, small_extents());
+    let mut reply = [0xEEu8; 4096];
+    let on = Settings { write_flag: true };
+    let mut none = Registration::new();
+    let words = take_frame(Code::Ascii, b"500000FF03FF000020001014010000D*000002000212345678", &mut reply, &mut image, &on, &mut none);
+    check_eq(words.fault, None)?;
+    check(words.length == 22)?;
+    let bits = take_frame(Code::Binary, b"\x50\x00\x00\xFF\xFF\x03\x00\x0E\x00\x10\x00\x01\x14\x01\x00\x00\x00\x00\x90\x03\x00\x10\x10", &mut reply, &mut image, &on, &mut none);
+    check_eq(bits.fault, None)?;
+    let back = take_frame(Code::Binary, b"\x50\x00\x00\xFF\xFF\x03\x00\x0C\x00\x10\x00\x01\x04\x00\x00\x02\x00\x00\xA8\x02\x00", &mut reply, &mut image, &on, &mut none);
+    check(back.length == 15 && reply[11..15] == b"\x34\x12\x78\x56"[..])?;
+    let shown = take_frame(Code::Ascii, b"500000FF03FF000018001004010001M*0000000004", &mut reply, &mut image, &on, &mut none);
+    check(shown.length == 26 && reply[22..26] == b"1011"[..])?;
+    let off = Settings { write_flag: false };
+    let refused = take_frame(Code::Ascii, b"500000FF03FF000020001014010000D*000002000200000000", &mut reply, &mut image, &off, &mut none);
+    check_eq(refused.fault, fault(Cause::WriteOff, 22))
+}
+
+// A lock over any memory: D1 is closed.
+fn lock_second<M: WritableMemory>(memory: &mut M) -> Result<(), Fail> {
+    let mut locked = Locked::new(memory);
+    check_eq(locked.lock(Range { device: Device::D, first: 1, last: 1 }), Ok(()))?;
+    check_eq(locked.lock(Range { device: Device::D, first: 9, last: 3 }), Err(Refusal::NoLock))?;
+    let mut reply = [0xEEu8; 4096];
+    let on = Settings { write_flag: true };
+    let mut none = Registration::new();
+    let refused = take_frame(Code::Ascii, b"500000FF03FF0000280010140200000200D*0000000001D*0000010002", &mut reply, &mut locked, &on, &mut none);
+    check_eq(refused.fault, fault(Cause::ClosedPoint, 46))?;
+    check_eq(locked.read(Device::D, 0), Some(0))?;
+    check_eq(locked.write(Device::D, 1, 5), Err(Refusal::Closed))
+}
+
+#[test]
+fn locked_points_stay() -> Result<(), Fail> {
+    let mut words = [0u16; 17];
+    let mut tables = PackedTables::new(&mut words, small_extents());
+    lock_second(&mut tables)
+}
+
+#[test]
+fn registration_and_monitor() -> Result<(), Fail> {
+    let mut words = [0u16; 17];
+    let mut tables = PackedTables::new(&mut words, small_extents());
+    check_eq(tables.write(Device::D, 3, 0x0102), Ok(()))?;
+    let mut reply = [0xEEu8; 4096];
+    let off = Settings { write_flag: false };
+    let mut registration = Registration::new();
+    let monitor = b"\x50\x00\x00\xFF\xFF\x03\x00\x06\x00\x10\x00\x02\x08\x00\x00";
+    let early = take_frame(Code::Binary, monitor, &mut reply, &mut tables, &off, &mut registration);
+    check_eq(early.fault, fault(Cause::NotRegistered, 11))?;
+    let asked = take_frame(Code::Ascii, b"500000FF03FF0000180010080100000100D*000003", &mut reply, &mut tables, &off, &mut registration);
+    check_eq(asked.fault, None)?;
+    check_eq(registration.count(), Some(1))?;
+    let outside = take_frame(Code::Ascii, b"500000FF03FF0000180010080100000100D*000016", &mut reply, &mut tables, &off, &mut registration);
+    check_eq(outside.fault, fault(Cause::OutsideExtent, 34))?;
+    let shown = take_frame(Code::Binary, monitor, &mut reply, &mut tables, &off, &mut registration);
+    check_eq(shown.fault, None)?;
+    check(shown.length == 13 && reply[11..13] == b"\x02\x01"[..])
 }
