@@ -10,10 +10,13 @@ use crate::words::CauseNumber;
 use crate::words::CauseNumberDisplay;
 use crate::words::Extent;
 use crate::words::ExtentDisplay;
+use crate::words::Named;
+use crate::words::NamedDisplay;
 use crate::words::Point;
 use crate::words::PointDisplay;
 use crate::words::Value;
 use crate::words::ValueDisplay;
+use crate::words::flag_name;
 use crate::words::layer_name;
 use crate::words::refusal_words;
 use device::DEVICES;
@@ -23,6 +26,8 @@ use memory::LockedReadable;
 use memory::LockedWritable;
 use memory::Range;
 use memory::ReadableMemory;
+use memory::Refusal;
+use memory::RefusalPartialEq;
 use memory::WritableMemory;
 use server::Answer;
 use server::Registration;
@@ -38,11 +43,6 @@ pub struct Bench<M> {
     memory: Locked<M>,
     settings: Settings,
     registration: Registration,
-}
-
-// The name of a flag's state.
-fn flag_name(flag: bool) -> &'static str {
-    if flag { "on" } else { "off" }
 }
 
 // Digits as they are printed: - where there are none.
@@ -101,24 +101,29 @@ impl<M: WritableMemory + Storage> Bench<M> {
     }
 
     pub fn lock(&mut self, rt: &LibcRuntime, range: Range) -> io::Result<()> {
-        let first = Point {
-            device: range.device,
+        let device = range.device;
+        let first = Named(Point {
+            device,
             number: range.first,
-        };
-        let last = Point {
-            device: range.device,
+        });
+        let last = Named(Point {
+            device,
             number: range.last,
-        };
+        });
         match self.memory.lock(range) {
             Ok(()) => {
                 println!(rt, "lock ok")?;
                 println!(rt, "  {first} to {last} are locked against writing")
             }
             Err(refusal) => {
-                let number = refusal.number();
-                let words = refusal_words(refusal);
-                println!(rt, "lock refused {number}")?;
-                println!(rt, "  {first} to {last} were not locked ({number}): {words}")
+                let cause = refusal.number();
+                let words = if range.last < range.first {
+                    "the last number lies before the first"
+                } else {
+                    "sixteen ranges are locked already"
+                };
+                println!(rt, "lock refused {cause}")?;
+                println!(rt, "  {first} to {last} were not locked ({cause}): {words}")
             }
         }
     }
@@ -128,26 +133,39 @@ impl<M: WritableMemory + Storage> Bench<M> {
         self.registration = Registration::new();
         let flag = flag_name(write_flag);
         println!(rt, "server ok")?;
-        println!(rt, "  a server stands over the memory: writing by frames is {flag}, nothing is registered")
+        println!(
+            rt,
+            "  a server stands over the memory: writing by frames is {flag}, and nothing is registered"
+        )
     }
 
-    pub fn set(&mut self, rt: &LibcRuntime, device: Device, number: u32, value: u16) -> io::Result<()> {
-        let point = Point { device, number };
-        let shown = Value {
-            kind: device.kind(),
-            value,
-        };
+    pub fn set(
+        &mut self,
+        rt: &LibcRuntime,
+        device: Device,
+        number: u32,
+        value: u16,
+    ) -> io::Result<()> {
+        let point = Named(Point { device, number });
         match self.memory.write(device, number, value) {
             Ok(()) => {
+                let shown = Value {
+                    kind: device.kind(),
+                    value,
+                };
                 println!(rt, "set ok")?;
                 println!(rt, "  {point} is now {shown}")
             }
             Err(refusal) => {
-                let number = refusal.number();
+                let cause = refusal.number();
                 let words = refusal_words(refusal);
-                let extent = self.extent_of(device);
-                println!(rt, "set refused {number}")?;
-                println!(rt, "  {point} was not set to {value} ({number}): {words}; {extent}")
+                println!(rt, "set refused {cause}")?;
+                print!(rt, "  {point} was not set to {value} ({cause}): {words}")?;
+                if refusal == Refusal::Outside {
+                    let extent = self.extent_of(device);
+                    print!(rt, "; {extent}")?;
+                }
+                println!(rt, "")
             }
         }
     }
@@ -160,7 +178,7 @@ impl<M: WritableMemory + Storage> Bench<M> {
     }
 
     pub fn look(&self, rt: &LibcRuntime, device: Device, number: u32) -> io::Result<()> {
-        let point = Point { device, number };
+        let point = Named(Point { device, number });
         match self.memory.read(device, number) {
             None => {
                 let extent = self.extent_of(device);
@@ -183,7 +201,13 @@ impl<M: WritableMemory + Storage> Bench<M> {
         }
     }
 
-    pub fn take(&mut self, rt: &LibcRuntime, code: Code, space: usize, frame: &[u8]) -> io::Result<()> {
+    pub fn take(
+        &mut self,
+        rt: &LibcRuntime,
+        code: Code,
+        space: usize,
+        frame: &[u8],
+    ) -> io::Result<()> {
         let mut reply = vec![in rt.alloc(); 0xEEu8; space]?;
         let answer = take_frame(
             code,
@@ -218,7 +242,10 @@ impl<M: WritableMemory + Storage> Bench<M> {
             }
             Some(count) => {
                 println!(rt, "final flag {flag} registered {count} storage {digits}")?;
-                println!(rt, "  writing by frames is {flag}; {count} accesses are registered")
+                println!(
+                    rt,
+                    "  writing by frames is {flag}; {count} accesses are registered"
+                )
             }
         }?;
         for row in DEVICES {
@@ -241,7 +268,7 @@ impl<M: WritableMemory + Storage> Bench<M> {
                 if told >= 32 {
                     return println!(rt, ", and more");
                 }
-                let lead = if told == 0 { "  " } else { ", " };
+                let lead = if told == 0 { "  not 0: " } else { ", " };
                 print!(rt, "{lead}{point} = {shown}")?;
                 told += 1;
             }

@@ -40,7 +40,8 @@ impl Expected {
         match self {
             Expected::Call => "memory, lock, server, set, look, frame or final",
             Expected::Form => "packed or image",
-            Expected::Extents => "extents such as D=16,M=64, each device at most once, or - for none",
+            Expected::Extents =>
+                "extents such as D=16,M=64, each device at most once, or - for none",
             Expected::Symbol => "a device: M, SM, L, X, Y, B, D, SD, ZR, W, TS or TN",
             Expected::Number => "a decimal number from 0 to 4294967295",
             Expected::Value => "a decimal value from 0 to 65535",

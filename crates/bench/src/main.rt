@@ -5,6 +5,7 @@ mod cutting;
 mod expected;
 mod fields;
 mod hex;
+mod making;
 mod numbers;
 mod run;
 mod script;

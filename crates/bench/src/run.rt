@@ -4,14 +4,14 @@ ghost use lib.ListN.{length};
 ghost use Rattle.std.specs.Vec.{made};
 use crate::bench::Bench;
 use crate::call::Call;
+use crate::making::image_bytes;
+use crate::making::packed_words;
+use crate::making::tell_image;
+use crate::making::tell_packed;
 use crate::storage::ImageStorage;
 use crate::storage::LentStorage;
 use crate::storage::PackedStorage;
 use crate::storage::Storage;
-use crate::words::Extent;
-use crate::words::ExtentDisplay;
-use crate::words::refusal_words;
-use device::DEVICES;
 use memory::ByteImage;
 use memory::ImageReadable;
 use memory::ImageWritable;
@@ -20,14 +20,7 @@ use memory::LentWritable;
 use memory::PackedReadable;
 use memory::PackedTables;
 use memory::PackedWritable;
-use memory::Refusal;
 use memory::WritableMemory;
-use memory::bytes_needed;
-use memory::fits;
-use memory::image_fits;
-use memory::words_needed;
-use std::alloc::AllocError;
-use std::alloc::Global;
 use std::io;
 
 // Carries out the calls up to the next memory, and says how many they were.
@@ -59,71 +52,13 @@ fn run_section<M: WritableMemory + Storage>(
     Ok(calls.len())
 }
 
-// Prints the answer to the making of a memory.
-fn show_memory(
-    rt: &LibcRuntime,
-    form: &str,
-    units: usize,
-    extents: &[u32; 12],
-    making: Result<(), Refusal>,
-) -> io::Result<()> {
-    match making {
-        Ok(()) => {
-            println!(rt, "memory ok")?;
-            println!(rt, "  {form} of {units}")?;
-            for row in DEVICES {
-                let points = extents[row.device.place()];
-                if points > 0 {
-                    let extent = Extent {
-                        device: row.device,
-                        points,
-                    };
-                    println!(rt, "  {extent}")?;
-                }
-            }
-            Ok(())
-        }
-        Err(refusal) => {
-            let number = refusal.number();
-            let words = refusal_words(refusal);
-            println!(rt, "memory refused {number}")?;
-            println!(rt, "  refused ({number}): {words}; the memory has no points")
-        }
-    }
-}
-
-// Zero words of just the needed size; none where the extents are refused.
-fn zero_words(heap: Global, extents: &[u32; 12]) -> Result<Vec<u16>, AllocError> {
-    match words_needed(extents) {
-        Ok(size) => vec![in heap; 0u16; size],
-        Err(_) => Ok(Vec::new(heap)),
-    }
-}
-
-fn zero_bytes(heap: Global, extents: &[u32; 12]) -> Result<Vec<u8>, AllocError> {
-    match bytes_needed(extents) {
-        Ok(size) => vec![in heap; 0u8; size],
-        Err(_) => Ok(Vec::new(heap)),
-    }
-}
-
-// The words of a making: those given, or zeros.
-fn packed_words(heap: Global, given: &Option<Vec<u16>>, extents: &[u32; 12]) -> Result<Vec<u16>, AllocError> {
-    match given {
-        Some(words) => Vec::from_slice(heap, words.as_slice()),
-        None => zero_words(heap, extents),
-    }
-}
-
-fn image_bytes(heap: Global, given: &Option<Vec<u8>>, extents: &[u32; 12]) -> Result<Vec<u8>, AllocError> {
-    match given {
-        Some(bytes) => Vec::from_slice(heap, bytes.as_slice()),
-        None => zero_bytes(heap, extents),
-    }
-}
-
 // Makes packed tables over the words and carries out the calls up to the next memory.
-fn run_packed(rt: &LibcRuntime, words: &mut [u16], extents: [u32; 12], calls: &[Call]) -> io::Result<usize>
+fn run_packed(
+    rt: &LibcRuntime,
+    words: &mut [u16],
+    extents: [u32; 12],
+    calls: &[Call],
+) -> io::Result<usize>
     ensures { λ r. ⌜ made r (λ n. n ≤ length (now (calls .entry))) ⌝ }
 {
     let mut tables = PackedTables::new(words, extents);
@@ -131,7 +66,12 @@ fn run_packed(rt: &LibcRuntime, words: &mut [u16], extents: [u32; 12], calls: &[
 }
 
 // Makes a byte image over the bytes and carries out the calls up to the next memory.
-fn run_image(rt: &LibcRuntime, bytes: &mut [u8], extents: [u32; 12], calls: &[Call]) -> io::Result<usize>
+fn run_image(
+    rt: &LibcRuntime,
+    bytes: &mut [u8],
+    extents: [u32; 12],
+    calls: &[Call],
+) -> io::Result<usize>
     ensures { λ r. ⌜ made r (λ n. n ≤ length (now (calls .entry))) ⌝ }
 {
     let mut image = ByteImage::new(bytes, extents);
@@ -146,13 +86,13 @@ fn run_memory(rt: &LibcRuntime, making: &Call, calls: &[Call]) -> io::Result<usi
         Call::Packed { extents, words } => {
             let mut words = packed_words(rt.alloc(), words, extents)?;
             let size = words.len();
-            show_memory(rt, "packed tables, in 16-bit words", size, extents, fits(size, extents))?;
+            tell_packed(rt, size, extents)?;
             run_packed(rt, words.as_mut_slice(), *extents, calls)
         }
         Call::Image { extents, bytes } => {
             let mut bytes = image_bytes(rt.alloc(), bytes, extents)?;
             let size = bytes.len();
-            show_memory(rt, "byte image, in bytes", size, extents, image_fits(size, extents))?;
+            tell_image(rt, size, extents)?;
             run_image(rt, bytes.as_mut_slice(), *extents, calls)
         }
         _ => Ok(0),

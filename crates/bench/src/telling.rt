@@ -11,6 +11,7 @@ use crate::words::cause_words;
 use crate::words::field_words;
 use device::Device;
 use device::Kind;
+use frame::Cause;
 use frame::Fault;
 use frame::Form;
 use frame::FormPartialEq;
@@ -18,6 +19,7 @@ use frame::Header;
 use server::Answer;
 use std::io;
 use wire::Code;
+use wire::CodePartialEq;
 
 // A call that took a frame: what was given, and what came of it.
 #[derive(Clone, Copy)]
@@ -120,13 +122,23 @@ fn tell_ask(rt: &LibcRuntime, header: Header, ask: Ask) -> io::Result<()> {
             let point = row.first();
             let count = row.count;
             let s = plural(count);
-            print!(rt, "  asks for {count} word{s} from {point} (command 0401, words)")
+            let of = match row.device.kind() {
+                Kind::Bit => " of 16 points",
+                Kind::Word => "",
+            };
+            print!(
+                rt,
+                "  asks for {count} word{s}{of} from {point} (command 0401, words)"
+            )
         }
         Ask::ReadBits(row) => {
             let point = row.first();
             let count = row.count;
             let s = plural(count);
-            print!(rt, "  asks for {count} bit{s} from {point} (command 0401, bits)")
+            print!(
+                rt,
+                "  asks for {count} bit{s} from {point} (command 0401, bits)"
+            )
         }
         Ask::Other => print!(rt, "  asks by command {command:04X} with {subcommand:04X}"),
     }
@@ -177,7 +189,7 @@ fn tell_sixteen(rt: &LibcRuntime, value: u16) -> io::Result<()> {
         let bit = (value >> i) % 2;
         print!(rt, "{bit}")?;
     }
-    print!(rt, " (as a word {value:04X}H)")
+    print!(rt, ", the lowest number first (as a word {value:04X}H)")
 }
 
 // Tells what divides a value from the one before.
@@ -278,43 +290,64 @@ fn tell_answer(
 fn tell_declined(rt: &LibcRuntime, fault: Fault, given: usize) -> io::Result<()> {
     let cause = CauseNumber(fault.cause);
     let words = cause_words(fault.cause);
-    println!(
-        rt,
-        "  not taken up ({cause}): {words}; {given} bytes were given; no reply is sent"
-    )?;
+    print!(rt, "  not taken up ({cause}): {words}")?;
+    match fault.cause {
+        Cause::NoReplySpace => {}
+        Cause::Incomplete => print!(rt, "; {given} bytes were given")?,
+        _ => tell_place(rt, fault)?,
+    }
+    println!(rt, "; no reply is sent")
+}
+
+// Tells where a fault was found.
+fn tell_place(rt: &LibcRuntime, fault: Fault) -> io::Result<()> {
     let place = fault.place;
     let field = field_words(fault.cause);
-    println!(rt, "  found at byte {place}, counted from 0: {field}")
+    print!(
+        rt,
+        "; found at byte {place} of the frame (counted from 0), {field}"
+    )
 }
 
 // Tells why a request was refused.
 fn tell_refused(rt: &LibcRuntime, fault: Fault) -> io::Result<()> {
     let cause = CauseNumber(fault.cause);
     let words = cause_words(fault.cause);
-    let place = fault.place;
-    let field = field_words(fault.cause);
-    println!(
-        rt,
-        "  refused with {cause}: {words}; found at byte {place} of the frame, counted from 0: {field}"
-    )
+    print!(rt, "  refused with {cause}: {words}")?;
+    tell_place(rt, fault)?;
+    println!(rt, "")
+}
+
+// Tells a reply in ASCII as the text that it is.
+fn tell_text(rt: &LibcRuntime, code: Code, reply: &[u8]) -> io::Result<()> {
+    if code == Code::Binary {
+        return Ok(());
+    }
+    let mut text = String::new(rt.alloc());
+    for byte in reply {
+        text.push(*byte as char)?;
+    }
+    println!(rt, "  reply as text: {text}")
+}
+
+// Tells a request that was taken up, and its reply.
+fn tell_taken(rt: &LibcRuntime, exchange: Exchange<'_>, header: Header) -> io::Result<()> {
+    let code = exchange.code;
+    let ask = read_ask(code, exchange.frame, header);
+    tell_ask(rt, header, ask)?;
+    tell_header(rt, code, header)?;
+    match exchange.answer.fault {
+        Some(fault) => tell_refused(rt, fault)?,
+        None => tell_answer(rt, code, header, ask, exchange.reply)?,
+    }
+    tell_text(rt, code, exchange.reply)
 }
 
 // Tells the whole exchange.
 pub fn tell(rt: &LibcRuntime, exchange: Exchange<'_>) -> io::Result<()> {
-    let code = exchange.code;
-    let fault = exchange.answer.fault;
-    match (fields::header(code, exchange.frame, exchange.space), fault) {
-        (Ok(header), Some(fault)) => {
-            tell_ask(rt, header, read_ask(code, exchange.frame, header))?;
-            tell_header(rt, code, header)?;
-            tell_refused(rt, fault)
-        }
-        (Ok(header), None) => {
-            let asked = read_ask(code, exchange.frame, header);
-            tell_ask(rt, header, asked)?;
-            tell_header(rt, code, header)?;
-            tell_answer(rt, code, header, asked, exchange.reply)
-        }
+    let header = fields::header(exchange.code, exchange.frame, exchange.space);
+    match (header, exchange.answer.fault) {
+        (Ok(header), _) => tell_taken(rt, exchange, header),
         (Err(_), Some(fault)) => tell_declined(rt, fault, exchange.frame.len()),
         (Err(_), None) => Ok(()),
     }

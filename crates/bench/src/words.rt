@@ -1,4 +1,6 @@
 // Points, values, causes and refusals in plain words.
+ghost use mathlib.Core.Path.{_≡_};
+ghost use Rattle.bench.specs.Names.{layer-text, flag-text};
 use device::Device;
 use device::Kind;
 use device::Notation;
@@ -40,6 +42,29 @@ pub impl fmt::Display for Point as PointDisplay {
     }
 }
 
+// A point that a script names by its decimal number, which is told too where the device's notation shows another.
+#[derive(Clone, Copy)]
+pub struct Named(pub Point);
+
+pub impl fmt::Display for Named as NamedDisplay {
+    fn fmt<W: fmt::Write>(&self, f: &mut fmt::Formatter<W>) -> fmt::Result {
+        let point = self.0;
+        let number = point.number;
+        match point.device.notation() {
+            Notation::Hexadecimal if number > 9 => write!(f, "{point} (decimal {number})"),
+            _ => write!(f, "{point}"),
+        }
+    }
+}
+
+// The name of a kind.
+fn kind_name(kind: Kind) -> &'static str {
+    match kind {
+        Kind::Bit => "bit",
+        Kind::Word => "word",
+    }
+}
+
 // How many points a device has, and which.
 #[derive(Clone, Copy)]
 pub struct Extent {
@@ -55,12 +80,16 @@ pub impl fmt::Display for Extent as ExtentDisplay {
         if points == 0 {
             return write!(f, "{symbol} has no points");
         }
+        let kind = kind_name(device.kind());
         let first = Point { device, number: 0 };
         let last = Point {
             device,
             number: points - 1,
         };
-        write!(f, "{symbol} has {points} points, {first} to {last}")
+        if points == 1 {
+            return write!(f, "{symbol} has 1 {kind} point, {first}");
+        }
+        write!(f, "{symbol} has {points} {kind} points, {first} to {last}")
     }
 }
 
@@ -97,12 +126,21 @@ pub impl fmt::Display for CauseNumber as CauseNumberDisplay {
 }
 
 // The name of a layer.
-pub fn layer_name(layer: Layer) -> &'static str {
+pub fn layer_name(layer: Layer) -> &'static str
+    ensures { λ r. ⌜ now r ≡ layer-text layer ⌝ }
+{
     match layer {
         Layer::Frame => "frame",
         Layer::Device => "device",
         Layer::Request => "request",
     }
+}
+
+// The name of a flag's state.
+pub fn flag_name(flag: bool) -> &'static str
+    ensures { λ r. ⌜ now r ≡ flag-text flag ⌝ }
+{
+    if flag { "on" } else { "off" }
 }
 
 // What a cause says.
@@ -126,7 +164,8 @@ pub fn cause_words(cause: Cause) -> &'static str {
         Cause::WrongKind => "a word device where a bit device is wanted",
         Cause::NotRegistered => "nothing is registered to be monitored",
         Cause::ClosedPoint => "a point is closed to writing",
-        Cause::BadValue => "a bit is neither 0 nor 1, or the filling of an odd number of bits is not 0",
+        Cause::BadValue =>
+            "a bit is neither 0 nor 1, or the filling of an odd number of bits is not 0",
         Cause::BadSize => "the data end too early, or too late",
     }
 }
@@ -134,7 +173,8 @@ pub fn cause_words(cause: Cause) -> &'static str {
 // The part of the frame that a cause is found in.
 pub fn field_words(cause: Cause) -> &'static str {
     match cause {
-        Cause::NoReplySpace | Cause::Incomplete => "the end of what was given",
+        Cause::NoReplySpace => "the front",
+        Cause::Incomplete => "the end of what was given",
         Cause::BadSubheader => "the subheader",
         Cause::BadDigit => "a digit of the header",
         Cause::NonZero => "the zero word",
@@ -147,15 +187,15 @@ pub fn field_words(cause: Cause) -> &'static str {
             "the device field"
         }
         Cause::BadValue => "the field of the values",
-        Cause::BadSize => "where a field is missing or bytes are left",
+        Cause::BadSize => "where a field is missing or bytes are left over",
     }
 }
 
-// Why a memory declined.
+// Why a point was not set.
 pub fn refusal_words(refusal: Refusal) -> &'static str {
     match refusal {
-        Refusal::NoRoom => "an extent is over the limit, or the storage is too short",
-        Refusal::NoLock => "sixteen ranges are locked already, or the last number lies before the first",
+        Refusal::NoRoom => "the memory has no room",
+        Refusal::NoLock => "the range cannot be locked",
         Refusal::Outside => "the point lies outside the device's extent",
         Refusal::Closed => "the point is locked against writing",
         Refusal::TooWide => "a bit point holds 0 or 1 alone",
