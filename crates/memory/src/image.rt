@@ -65,6 +65,13 @@ impl<'a> ByteImage<'a> {
         ByteImage { bytes, extents }
     }
 
+    // The bytes that the image lies in.
+    pub fn bytes(&self) -> &[u8]
+        ensures { λ r. ⌜ now r ≡ now (now (self .entry) .bytes) ⌝ }
+    {
+        self.bytes
+    }
+
     // Gives the point the value; refuses a point outside, then a value too wide, and changes nothing then.
     fn put(&mut self, device: Device, number: u32, value: u16) -> Result<(), Refusal>
         ensures answer { λ r. ⌜ r ≡ admitted device (extent-in (now (self .entry) .extents) device) number value ⌝ }

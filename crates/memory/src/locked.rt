@@ -83,6 +83,13 @@ impl<M: WritableMemory> Locked<M> {
         }
     }
 
+    // The memory below.
+    pub fn below(&self) -> &M
+        ensures { λ r. ⌜ now r ≡ now (self .entry) .below ⌝ }
+    {
+        &self.below
+    }
+
     // Gives the memory back.
     pub fn into_below(self) -> M
         ensures { λ r. ⌜ r ≡ self .below ⌝ }

@@ -94,6 +94,13 @@ impl<'a> PackedTables<'a> {
         PackedTables { words, extents }
     }
 
+    // The words that the tables lie in.
+    pub fn words(&self) -> &[u16]
+        ensures { λ r. ⌜ now r ≡ now (now (self .entry) .words) ⌝ }
+    {
+        self.words
+    }
+
     // Gives the point the value; refuses a point outside, then a value too wide, and changes nothing then.
     fn put(&mut self, device: Device, number: u32, value: u16) -> Result<(), Refusal>
         ensures answer { λ r. ⌜ r ≡ admitted device (extent-in (now (self .entry) .extents) device) number value ⌝ }

@@ -1,0 +1,4 @@
+pub mod Hex
+pub mod Symbols
+pub mod Decimals
+pub mod Names
