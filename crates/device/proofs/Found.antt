@@ -1,10 +1,10 @@
 -- The search finds the device that has the code or the symbol, and none exactly when no device has it.
 use mathlib.Core.Path.{_≡_, refl, sym, ap, _∙_}
-use mathlib.Core.Bool.{Bool, true, false, cond, _&&_}
+use mathlib.Core.Bool.{Bool, true, false, cond}
 use mathlib.Core.List.{List, [], _∷_, map}
 use Prim.Native.Nat.{ℕ}
 use lib.Dec.{eqb}
-use lib.ListN.{getD, length}
+use lib.ListN.{getD}
 use native.Mathlib.Omega.{arith}
 use Rattle.std.proofs.shelf.Tests.{eqb-true, and-parts}
 use Rattle.std.specs.Options.{Cases}

@@ -1,6 +1,6 @@
 -- Each device stands at its place in the table.
 use mathlib.Core.Path.{_≡_, refl, sym, ap, _∙_}
-use Prim.Native.Nat.{ℕ, _<_}
+use Prim.Native.Nat.{_<_}
 use lib.Dec.{lit<}
 use lib.ListN.{getD}
 use Rattle.device.specs.declared.table.Row.{Row}

@@ -1,6 +1,6 @@
 // The table of devices, in ascending order of code, and its search by code and by symbol.
 ghost use mathlib.Core.Path.{_≡_};
-ghost use Prim.Native.Nat.{ℕ, _<_, _≤_};
+ghost use Prim.Native.Nat.{_<_};
 ghost use mathlib.Core.List.{[], _∷_};
 ghost use Rattle.std.specs.Options.{Cases as BySome};
 ghost use Rattle.device.specs.Devices.{codeOf, kindOf, symbolOf, notationOf, rowOf};

@@ -247,29 +247,85 @@ fn writes_in_one_code_read_in_the_other() -> Result<(), Fail> {
     let mut reply = [0xEEu8; 4096];
     let on = Settings { write_flag: true };
     let mut none = Registration::new();
-    let words = take_frame(Code::Ascii, b"500000FF03FF000020001014010000D*000002000212345678", &mut reply, &mut image, &on, &mut none);
+    let words = take_frame(
+        Code::Ascii,
+        b"500000FF03FF000020001014010000D*000002000212345678",
+        &mut reply,
+        &mut image,
+        &on,
+        &mut none,
+    );
     check_eq(words.fault, None)?;
     check(words.length == 22)?;
-    let bits = take_frame(Code::Binary, b"\x50\x00\x00\xFF\xFF\x03\x00\x0E\x00\x10\x00\x01\x14\x01\x00\x00\x00\x00\x90\x03\x00\x10\x10", &mut reply, &mut image, &on, &mut none);
+    let bits = take_frame(
+        Code::Binary,
+        b"\x50\x00\x00\xFF\xFF\x03\x00\x0E\x00\x10\x00\x01\x14\x01\x00\x00\x00\x00\x90\x03\x00\x10\x10",
+        &mut reply,
+        &mut image,
+        &on,
+        &mut none,
+    );
     check_eq(bits.fault, None)?;
-    let back = take_frame(Code::Binary, b"\x50\x00\x00\xFF\xFF\x03\x00\x0C\x00\x10\x00\x01\x04\x00\x00\x02\x00\x00\xA8\x02\x00", &mut reply, &mut image, &on, &mut none);
+    let back = take_frame(
+        Code::Binary,
+        b"\x50\x00\x00\xFF\xFF\x03\x00\x0C\x00\x10\x00\x01\x04\x00\x00\x02\x00\x00\xA8\x02\x00",
+        &mut reply,
+        &mut image,
+        &on,
+        &mut none,
+    );
     check(back.length == 15 && reply[11..15] == b"\x34\x12\x78\x56"[..])?;
-    let shown = take_frame(Code::Ascii, b"500000FF03FF000018001004010001M*0000000004", &mut reply, &mut image, &on, &mut none);
+    let shown = take_frame(
+        Code::Ascii,
+        b"500000FF03FF000018001004010001M*0000000004",
+        &mut reply,
+        &mut image,
+        &on,
+        &mut none,
+    );
     check(shown.length == 26 && reply[22..26] == b"1011"[..])?;
     let off = Settings { write_flag: false };
-    let refused = take_frame(Code::Ascii, b"500000FF03FF000020001014010000D*000002000200000000", &mut reply, &mut image, &off, &mut none);
+    let refused = take_frame(
+        Code::Ascii,
+        b"500000FF03FF000020001014010000D*000002000200000000",
+        &mut reply,
+        &mut image,
+        &off,
+        &mut none,
+    );
     check_eq(refused.fault, fault(Cause::WriteOff, 22))
 }
 
 // A lock over any memory: D1 is closed.
 fn lock_second<M: WritableMemory>(memory: &mut M) -> Result<(), Fail> {
     let mut locked = Locked::new(memory);
-    check_eq(locked.lock(Range { device: Device::D, first: 1, last: 1 }), Ok(()))?;
-    check_eq(locked.lock(Range { device: Device::D, first: 9, last: 3 }), Err(Refusal::NoLock))?;
+    check_eq(
+        locked.lock(Range {
+            device: Device::D,
+            first: 1,
+            last: 1,
+        }),
+        Ok(()),
+    )?;
+    check_eq(
+        locked.lock(Range {
+            device: Device::D,
+            first: 9,
+            last: 3,
+        }),
+        Err(Refusal::NoLock),
+    )?;
     let mut reply = [0xEEu8; 4096];
     let on = Settings { write_flag: true };
     let mut none = Registration::new();
-    let refused = take_frame(Code::Ascii, b"500000FF03FF0000280010140200000200D*0000000001D*0000010002", &mut reply, &mut locked, &on, &mut none);
+    let refused = take_frame(
+        Code::Ascii,
+        b"500000FF03FF0000280010140200000200D*0000000001D*0000010002",
+        &mut reply,
+        &mut locked,
+        &on,
+        &mut none,
+    );
     check_eq(refused.fault, fault(Cause::ClosedPoint, 46))?;
     check_eq(locked.read(Device::D, 0), Some(0))?;
     check_eq(locked.write(Device::D, 1, 5), Err(Refusal::Closed))
@@ -291,14 +347,42 @@ fn registration_and_monitor() -> Result<(), Fail> {
     let off = Settings { write_flag: false };
     let mut registration = Registration::new();
     let monitor = b"\x50\x00\x00\xFF\xFF\x03\x00\x06\x00\x10\x00\x02\x08\x00\x00";
-    let early = take_frame(Code::Binary, monitor, &mut reply, &mut tables, &off, &mut registration);
+    let early = take_frame(
+        Code::Binary,
+        monitor,
+        &mut reply,
+        &mut tables,
+        &off,
+        &mut registration,
+    );
     check_eq(early.fault, fault(Cause::NotRegistered, 11))?;
-    let asked = take_frame(Code::Ascii, b"500000FF03FF0000180010080100000100D*000003", &mut reply, &mut tables, &off, &mut registration);
+    let asked = take_frame(
+        Code::Ascii,
+        b"500000FF03FF0000180010080100000100D*000003",
+        &mut reply,
+        &mut tables,
+        &off,
+        &mut registration,
+    );
     check_eq(asked.fault, None)?;
     check_eq(registration.count(), Some(1))?;
-    let outside = take_frame(Code::Ascii, b"500000FF03FF0000180010080100000100D*000016", &mut reply, &mut tables, &off, &mut registration);
+    let outside = take_frame(
+        Code::Ascii,
+        b"500000FF03FF0000180010080100000100D*000016",
+        &mut reply,
+        &mut tables,
+        &off,
+        &mut registration,
+    );
     check_eq(outside.fault, fault(Cause::OutsideExtent, 34))?;
-    let shown = take_frame(Code::Binary, monitor, &mut reply, &mut tables, &off, &mut registration);
+    let shown = take_frame(
+        Code::Binary,
+        monitor,
+        &mut reply,
+        &mut tables,
+        &off,
+        &mut registration,
+    );
     check_eq(shown.fault, None)?;
     check(shown.length == 13 && reply[11..13] == b"\x02\x01"[..])
 }

@@ -1,6 +1,6 @@
 -- The tests of a frame in their order, and what its header says.
 -- Sizes are in bytes of the binary form; `per-byte` turns them into wire bytes.
-use mathlib.Core.Bool.{Bool, true, false, cond, _&&_}
+use mathlib.Core.Bool.{cond, _&&_}
 use mathlib.Core.List.{List}
 use Prim.Native.Nat.{ℕ, _+_, _*_}
 use lib.Dec.{eqb, ltb, leb}

@@ -1,7 +1,7 @@
 // The tests of a frame, in their fixed order.
 ghost use mathlib.Core.Path.{_≡_};
-ghost use Prim.Native.Nat.{ℕ, _+_, _-_, _*_, _^_, _<_, _≤_};
-ghost use lib.ListN.{length, drop};
+ghost use Prim.Native.Nat.{_+_, _-_, _*_, _^_, _<_, _≤_};
+ghost use lib.ListN.{length};
 ghost use Rattle.std.specs.Vec.{made};
 ghost use Rattle.wire.specs.Numbers.{per-byte};
 ghost use Rattle.frame.specs.Headers.{field-fault, number-at, first-two, form-in, lead-bytes, serial-at, route-at, lead-at, frame-size, call-at, fields-at, tested};

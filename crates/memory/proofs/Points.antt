@@ -6,15 +6,15 @@ use mathlib.Core.Bool.{Bool, true, false, cond, _&&_}
 use Prim.Native.Nat.{ℕ, _+_, _<_, _≤_}
 use native.Mathlib.Omega.{arith}
 use lib.Dec.{eqb, ltb}
-use lib.ListN.{length, getD}
+use lib.ListN.{length}
 use Rattle.std.proofs.shelf.Tests.{cases-eq, cases-lt, cases-order, eq-eqb, ne-eqb, lt-ltb, le-ltb, ltb-true, cond-true, cond-false}
 use Rattle.std.specs.declared.result.Result.{Result}
 use Rattle.std.specs.declared.result.Result.the-variants.{Ok, Err}
 use Rattle.device.specs.declared.types.Device.{Device}
 use Rattle.device.specs.Devices.{kindOf, placeOf}
 use Rattle.device.proofs.Places.{place-one}
-use Rattle.memory.specs.Meaning.{Meaning, value-limit, put, written, write-answer}
-use Rattle.memory.specs.Layout.{start, room, width, unit-of, extent-in, index-of, point-in, with-point, value-in, stored, units-after, admitted}
+use Rattle.memory.specs.Meaning.{value-limit, put, written, write-answer}
+use Rattle.memory.specs.Layout.{start, room, width, extent-in, index-of, point-in, with-point, value-in, stored, units-after, admitted}
 use Rattle.memory.specs.Kept.{Kept, kept-same}
 use Rattle.memory.specs.declared.layout.Form.{Form}
 use Rattle.memory.specs.declared.refusal.Refusal.{Refusal}

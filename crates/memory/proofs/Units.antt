@@ -1,9 +1,9 @@
 -- A point's units once it has a value: it holds the value, and what lies elsewhere is as it was.
-use mathlib.Core.Path.{_≡_, refl, sym, ap, subst, _∙_}
+use mathlib.Core.Path.{_≡_, sym, ap, subst, _∙_}
 use mathlib.Core.List.{List}
 use mathlib.Core.Logic.{_⊎_, _≢_, inl, inr, ⊎-elim}
-use mathlib.Core.Bool.{Bool, true, false, cond}
-use Prim.Native.Nat.{ℕ, _+_, _*_, _/_, _%_, _^_, _<_, _≤_}
+use mathlib.Core.Bool.{cond}
+use Prim.Native.Nat.{ℕ, _+_, _/_, _%_, _<_, _≤_}
 use native.Mathlib.Omega.{arith}
 use lib.Dec.{eqb}
 use lib.ListN.{length, getD, set, length-set}
@@ -13,7 +13,7 @@ use Rattle.device.specs.declared.types.Kind.{Kind}
 use Rattle.device.specs.declared.types.Kind.the-variants.{Bit, Word}
 use Rattle.memory.specs.Meaning.{value-limit}
 use Rattle.memory.specs.Kept.{cells, cell, Holds}
-use Rattle.memory.specs.Layout.{unit-of, width, bitAt, with-bit, with-part, part-of, point-in, with-point}
+use Rattle.memory.specs.Layout.{unit-of, width, bitAt, part-of, point-in, with-point}
 use Rattle.memory.specs.declared.layout.Form.{Form}
 use Rattle.memory.specs.declared.layout.Form.the-variants.{Packed, Image}
 use Rattle.memory.proofs.Bitwise.{bit-own, bit-other}

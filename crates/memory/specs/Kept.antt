@@ -1,6 +1,6 @@
 -- What every call to a storage keeps: where it lies, its extents, its length, and whatever of it holds no point.
-use Prim.Native.Nat.{ℕ, _+_, _%_, _<_, _≤_}
-use mathlib.Core.Path.{_≡_, refl, ap, _∙_}
+use Prim.Native.Nat.{ℕ, _+_, _%_, _<_}
+use mathlib.Core.Path.{_≡_, refl, _∙_}
 use mathlib.Core.List.{List}
 use mathlib.Core.Logic.{_⊎_}
 use mathlib.Core.Bool.{Bool, true, false, cond}
@@ -13,7 +13,7 @@ use Rattle.device.specs.declared.types.Kind.{Kind}
 use Rattle.device.specs.declared.types.Kind.the-variants.{Bit, Word}
 use Rattle.device.specs.Devices.{kindOf}
 use Rattle.memory.specs.Meaning.{Sound}
-use Rattle.memory.specs.Layout.{extent-in, index-of, bitAt, part-of, point-in, value-in, stored, Small}
+use Rattle.memory.specs.Layout.{extent-in, index-of, bitAt, point-in, stored, Small}
 use Rattle.memory.specs.declared.layout.Form.{Form}
 use Rattle.memory.specs.declared.layout.Form.the-variants.{Packed, Image}
 

@@ -1,7 +1,7 @@
 -- Which points locked ranges close, and what one more lock answers and leaves.
 use Prim.Native.Nat.{ℕ}
 use mathlib.Core.List.{List, [], _∷_, _++_}
-use mathlib.Core.Bool.{Bool, true, false, cond, not, _&&_, _||_}
+use mathlib.Core.Bool.{Bool, false, cond, not, _&&_, _||_}
 use mathlib.Core.Path.{_≡_, ap}
 use lib.Dec.{eqb, leb, ltb}
 use lib.ListN.{length}

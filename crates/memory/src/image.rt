@@ -1,12 +1,10 @@
 // A byte image: the points in the caller's lent bytes.
 ghost use mathlib.Core.Path.{_≡_};
-ghost use mathlib.Core.Bool.{Bool, true, false};
-ghost use Prim.Native.Nat.{ℕ, _+_, _*_, _^_, _<_, _≤_};
-ghost use lib.ListN.{length, getD};
+ghost use Prim.Native.Nat.{_+_, _*_, _<_, _≤_};
+ghost use lib.ListN.{length};
 ghost use denote.Ref.{now, name};
-ghost use Rattle.device.specs.Devices.{kindOf, placeOf};
-ghost use Rattle.memory.specs.Meaning.{value-limit, write-answer, written};
-ghost use Rattle.memory.specs.Layout.{width, byte-part, with-bytes, extent-in, value-in, stored, units-after, admitted, Small, room, needed, making, made-of};
+ghost use Rattle.memory.specs.Meaning.{write-answer, written};
+ghost use Rattle.memory.specs.Layout.{width, byte-part, extent-in, stored, units-after, admitted, Small, room, needed, making, made-of};
 ghost use Rattle.memory.specs.Kept.{Kept, stored-sound};
 ghost use Rattle.memory.specs.declared.layout.Form.the-variants.{Image};
 use crate::layout::Form;

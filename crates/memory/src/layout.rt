@@ -1,11 +1,10 @@
 // Where the points lie in a storage of units: 16-bit words for packed tables, bytes for an image.
 ghost use mathlib.Core.Path.{_≡_};
-ghost use mathlib.Core.Bool.{Bool, true, false, cond};
-ghost use Prim.Native.Nat.{ℕ, _+_, _*_, _^_, _<_, _≤_};
+ghost use mathlib.Core.Bool.{true, false};
+ghost use Prim.Native.Nat.{_+_, _*_, _^_, _<_, _≤_};
 ghost use lib.Dec.{leb};
-ghost use lib.ListN.{length, getD};
-ghost use Rattle.device.specs.Devices.{kindOf, placeOf, deviceAt};
-ghost use Rattle.memory.specs.Meaning.{extent-limit, value-limit};
+ghost use Rattle.device.specs.Devices.{kindOf, deviceAt};
+ghost use Rattle.memory.specs.Meaning.{extent-limit};
 ghost use Rattle.memory.specs.Layout.{units-for, unit-of, width, start, room, extent-in, index-of, Small, small-below, is-fit, needed, making, made-of, admitted};
 use crate::refusal::Refusal;
 use device::DEVICES;

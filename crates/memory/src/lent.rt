@@ -1,6 +1,5 @@
 // A memory that is lent is a memory too, so that a layer over M by value can also stand over a borrowed one.
 ghost use mathlib.Core.Path.{_≡_, refl, _∙_};
-ghost use Prim.Native.Nat.{ℕ};
 ghost use denote.Ref.{now, name};
 use crate::refusal::Refusal;
 use crate::traits::ReadableMemory;

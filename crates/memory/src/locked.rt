@@ -1,11 +1,10 @@
 // The calibration lock: a layer over a memory that closes ranges of its points.
 ghost use mathlib.Core.Path.{_≡_, refl, _∙_};
-ghost use mathlib.Core.List.{List, [], _∷_};
-ghost use mathlib.Core.Bool.{Bool, true, false, _&&_};
-ghost use Prim.Native.Nat.{ℕ, _+_, _<_, _≤_, min};
+ghost use mathlib.Core.List.{[]};
+ghost use mathlib.Core.Bool.{true, false, _&&_};
+ghost use Prim.Native.Nat.{_+_, _<_, min};
 ghost use lib.Dec.{ltb};
 ghost use lib.ListN.{length, set, take};
-ghost use Rattle.device.specs.Devices.{placeOf};
 ghost use Rattle.memory.specs.Meaning.{written};
 ghost use Rattle.memory.specs.Locks.{covers, is-locked, may-lock, lock-answer, locks-after, under, shut-under, answer-under};
 use crate::refusal::Refusal;

@@ -1,13 +1,10 @@
 // Packed tables: the points in the caller's lent 16-bit words.
 ghost use mathlib.Core.Path.{_≡_};
-ghost use mathlib.Core.List.{List, [], _∷_};
-ghost use mathlib.Core.Bool.{Bool, true, false};
-ghost use Prim.Native.Nat.{ℕ, _+_, _*_, _^_, _<_, _≤_};
-ghost use lib.ListN.{length, getD};
+ghost use Prim.Native.Nat.{_^_, _<_, _≤_};
+ghost use lib.ListN.{length};
 ghost use denote.Ref.{now, name};
-ghost use Rattle.device.specs.Devices.{kindOf, placeOf};
 ghost use Rattle.memory.specs.Meaning.{write-answer, written};
-ghost use Rattle.memory.specs.Layout.{with-bit, with-part, part-of, extent-in, index-of, value-in, stored, units-after, admitted, Small, room, needed, making, made-of};
+ghost use Rattle.memory.specs.Layout.{with-bit, with-part, part-of, extent-in, stored, units-after, admitted, Small, room, needed, making, made-of};
 ghost use Rattle.memory.specs.Kept.{Kept, stored-sound};
 ghost use Rattle.memory.specs.declared.layout.Form.the-variants.{Packed};
 use crate::layout::Form;

@@ -5,23 +5,15 @@ use Prim.Native.Nat.{ℕ, zero, suc, _+_, _-_, _<_, _≤_}
 use native.Mathlib.Numerals.{add-one}
 use native.Mathlib.Omega.{arith}
 use lib.ListN.{length, drop, take, set, length-append}
-use lib.Seq.{drop-drop, sets, sets-eq, drop-at, take-at}
-use Rattle.std.specs.declared.result.Result.{Result}
-use Rattle.std.specs.declared.result.Result.the-variants.{Ok, Err}
+use lib.Seq.{sets, sets-eq, drop-at, take-at}
 use Rattle.device.specs.declared.types.Device.{Device}
 use Rattle.device.specs.Devices.{kindOf}
 use Rattle.wire.specs.declared.code.Code.{Code}
-use Rattle.wire.specs.declared.code.Code.the-variants.{Binary, Ascii}
-use Rattle.wire.specs.declared.code.FieldFault.{FieldFault}
-use Rattle.wire.specs.declared.code.FieldFault.the-variants.{Missing}
 use Rattle.wire.proofs.Places.{sets-sets}
 use Rattle.server.specs.declared.registration.Access.{Access}
 use Rattle.server.specs.Registered.{accesses}
-use Rattle.wire.specs.Numbers.{then, number-in}
-use Rattle.wire.specs.Fields.{device-in}
-use Rattle.request.specs.Entries.{access-in, setting-in}
 use Rattle.request.specs.Requests.{Setting}
-use Rattle.request.specs.Fields.{list-in, while-read, bit-in, bits-in}
+use Rattle.request.specs.Fields.{bit-in, bits-in}
 use Rattle.request.specs.Limits.{points}
 use Rattle.server.specs.Writes.{Write, as-point, in-row, as-word, as-words, each}
 

@@ -1,8 +1,8 @@
 -- No write of an accepted request is refused by the memory.
 use mathlib.Core.Path.{_≡_, refl, sym, ap, subst, _∙_}
-use mathlib.Core.Bool.{Bool, true, false, _&&_}
+use mathlib.Core.Bool.{true}
 use mathlib.Core.List.{List, [], _∷_, _++_}
-use Prim.Native.Nat.{ℕ, zero, suc, _+_, _*_, _/_, _%_, _^_, _<_, _≤_}
+use Prim.Native.Nat.{ℕ, zero, suc, _+_, _/_, _%_, _^_, _<_}
 use native.Mathlib.Nat.{add-zero}
 use native.Mathlib.Omega.{arith}
 use borrow.Author.Tests.{le-leb, leb-true}
@@ -15,7 +15,7 @@ use Rattle.device.specs.declared.types.Kind.{Kind}
 use Rattle.device.specs.declared.types.Kind.the-variants.{Bit, Word}
 use Rattle.device.specs.Devices.{kindOf}
 use Rattle.memory.specs.Meaning.{Meaning, value-limit, write-answer}
-use Rattle.request.specs.Limits.{points, is-bit, within, all-open, words-within, words-open, all-bits}
+use Rattle.request.specs.Limits.{points, is-bit, within, all-open, all-bits}
 use Rattle.request.specs.Requests.{Asked, Setting, write-bits, write-words, random-bits, random-write}
 use Rattle.request.specs.Verdicts.{verdict}
 use Rattle.request.specs.Writing.{Each}

@@ -1,6 +1,6 @@
 // Points read out of any readable memory, as bits and as words.
 ghost use mathlib.Core.Path.{_≡_};
-ghost use Prim.Native.Nat.{ℕ, _+_, _-_, _*_, _^_, _<_, _≤_};
+ghost use Prim.Native.Nat.{_+_, _-_, _*_, _^_, _<_, _≤_};
 ghost use Rattle.device.specs.Devices.{kindOf};
 ghost use Rattle.device.specs.declared.types.Kind.the-variants.{Bit};
 ghost use Rattle.request.specs.Limits.{points};

@@ -1,5 +1,5 @@
 // What a controller has registered to be monitored.
-ghost use Prim.Native.Nat.{ℕ, _≤_};
+ghost use Prim.Native.Nat.{_≤_};
 ghost use Rattle.server.specs.Counts.{counted};
 use device::Device;
 use device::DeviceDebug;

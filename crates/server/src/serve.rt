@@ -1,12 +1,10 @@
 // Takes one frame, carries its request out and writes the reply.
 ghost use mathlib.Core.Path.{_≡_};
-ghost use mathlib.Core.Bool.{Bool};
-ghost use Prim.Native.Nat.{ℕ, _+_, _*_, _^_, _<_, _≤_};
-ghost use lib.ListN.{length, take};
+ghost use Prim.Native.Nat.{_+_, _*_, _<_, _≤_};
+ghost use lib.ListN.{length};
 ghost use Rattle.std.specs.declared.option.Option.the-variants.{Some, None};
 ghost use Rattle.device.specs.Devices.{kindOf};
 ghost use Rattle.device.specs.declared.types.Kind.the-variants.{Bit};
-ghost use Rattle.wire.specs.Numbers.{per-byte};
 ghost use Rattle.server.specs.Points.{words, bits};
 ghost use Rattle.server.specs.Registered.{registered, words-in, doubles-in};
 ghost use Rattle.server.specs.Answers.{accepted, refused, no-data, in-bits, in-words, answer-bytes};

@@ -1,6 +1,6 @@
 // Writes words and points to any writable memory.
 ghost use mathlib.Core.Path.{_≡_};
-ghost use Prim.Native.Nat.{ℕ, _+_, _*_, _/_, _%_, _^_, _<_, _≤_};
+ghost use Prim.Native.Nat.{_+_, _*_, _/_, _%_, _^_, _<_, _≤_};
 ghost use mathlib.Core.List.{_++_};
 ghost use Rattle.wire.specs.Numbers.{per-byte, number-in};
 ghost use lib.ListN.{drop};

@@ -1,5 +1,5 @@
 -- Numbers by their bytes and by their digits.
-use mathlib.Core.Path.{_≡_, refl, sym, ap, _∙_}
+use mathlib.Core.Path.{_≡_, refl, sym}
 use Prim.Native.Nat.{ℕ, zero, suc, _+_, _*_, _/_, _%_, _^_, _<_, _≤_}
 use native.Mathlib.Nat.{pow-suc, pow-le-pow-right, mul-comm, one-le-pow}
 use native.Mathlib.Numerals.{add-one}

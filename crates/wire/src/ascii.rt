@@ -1,6 +1,6 @@
 // The ASCII code: two hexadecimal digits for a byte, the highest first.
 ghost use mathlib.Core.Path.{_≡_};
-ghost use Prim.Native.Nat.{ℕ, _+_, _*_, _^_, _<_, _≤_};
+ghost use Prim.Native.Nat.{_+_, _*_, _^_, _<_, _≤_};
 ghost use lib.ListN.{length, drop, set, getD};
 ghost use lib.Seq.{sets};
 ghost use Rattle.std.specs.Vec.{made};

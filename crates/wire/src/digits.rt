@@ -1,6 +1,6 @@
 // Digits as characters: '0' to '9', and in hexadecimal 'A' to 'F' too.
 ghost use mathlib.Core.Path.{_≡_};
-ghost use Prim.Native.Nat.{ℕ, _+_, _*_, _/_, _%_, _^_, _<_};
+ghost use Prim.Native.Nat.{_+_, _*_, _/_, _%_, _^_, _<_};
 ghost use Rattle.wire.specs.Numbers.{base, digit-of, hex-value, hex-char};
 use crate::code::FieldFault;
 use device::Notation;

@@ -1,6 +1,4 @@
 use mathlib.Core.Path.{_≡_}
-use borrow.Author.Needs.{needs}
-use native.Mathlib.Omega.{arith}
 use Prim.Native.Nat.{_+_}
 use Rattle.memory.specs.Layout.{index-of}
 use Rattle.memory.proofs.Starts.{index-room}

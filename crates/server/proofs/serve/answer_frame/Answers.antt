@@ -1,4 +1,4 @@
-use mathlib.Core.Path.{_≡_, refl, sym, ap, subst}
+use mathlib.Core.Path.{refl, subst}
 use Rattle.std.specs.declared.result.Result.{Result}
 use Rattle.frame.specs.declared.fault.Fault.{Fault}
 use Rattle.request.specs.Requests.{Asked}

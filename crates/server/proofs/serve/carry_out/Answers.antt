@@ -1,11 +1,8 @@
-use mathlib.Core.Path.{_≡_, refl, sym, ap, subst, _∙_}
+use mathlib.Core.Path.{sym, subst}
 use native.Mathlib.Omega.{arith}
 use Rattle.std.specs.Vec.{made}
-use Rattle.std.specs.declared.result.Result.{Result}
 use Rattle.std.specs.declared.result.Result.the-variants.{Ok}
-use Rattle.frame.specs.declared.fault.Fault.{Fault}
 use Rattle.request.specs.declared.types.Request.{Request}
-use Rattle.request.specs.Requests.{Asked}
 use Rattle.request.specs.Laws.{Passed, Bounded}
 use Rattle.request.specs.Readings.{held, said}
 use Rattle.server.specs.Serves.{Came, answered}

@@ -1,4 +1,4 @@
-use mathlib.Core.Path.{_≡_, sym, ap, _∙_}
+use mathlib.Core.Path.{sym, ap, _∙_}
 use Prim.Native.Nat.{_+_}
 use lib.Seq.{sets}
 use Rattle.std.specs.declared.option.Option.the-variants.{Some}
@@ -8,7 +8,6 @@ use Rattle.frame.proofs.Heads.{length-error}
 use Rattle.wire.specs.Series.{series-bytes}
 use Rattle.server.proofs.Telling.{told}
 use Rattle.server.proofs.serve.refuse.Needs as need
-use native.Mathlib.Omega.{arith}
 
 pub returns : need.returns
 returns g c =

@@ -1,4 +1,4 @@
-use mathlib.Core.Path.{_≡_, refl, sym, ap, _∙_}
+use mathlib.Core.Path.{refl, sym, ap, _∙_}
 use Rattle.std.specs.declared.option.Option.the-variants.{None}
 use Rattle.wire.specs.Points.{bits-bytes, bits-size}
 use Rattle.server.specs.Points.{bits}

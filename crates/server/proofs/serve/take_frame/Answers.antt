@@ -1,4 +1,3 @@
-use mathlib.Core.Path.{_≡_}
 use lib.ListN.{length}
 use Rattle.wire.specs.declared.code.Code.the-variants.{Binary, Ascii}
 use Rattle.server.specs.Registered.{registered}

@@ -1,4 +1,4 @@
-use mathlib.Core.Path.{_≡_, sym, ap, _∙_}
+use mathlib.Core.Path.{_∙_}
 use native.Mathlib.Omega.{arith}
 use Rattle.server.proofs.Shows.{bits-turn, bits-left}
 use Rattle.server.proofs.showing.write_bits.Needs as need

@@ -1,10 +1,7 @@
-use mathlib.Core.Path.{_≡_, sym, ap, _∙_}
-use Prim.Native.Nat.{_+_, _-_, _*_, _≤_}
+use mathlib.Core.Path.{_∙_}
+use Prim.Native.Nat.{_-_, _*_}
 use native.Mathlib.Omega.{arith}
-use lib.Seq.{sets}
 use Rattle.wire.specs.Numbers.{per-byte}
-use Rattle.wire.specs.Series.{values-bytes}
-use Rattle.server.specs.Points.{words}
 use Rattle.server.proofs.Shows.{one-of, words-turn}
 use Rattle.server.proofs.showing.write_words.Needs as need
 

@@ -1,8 +1,7 @@
-use mathlib.Core.Path.{_≡_, refl, sym, ap, _∙_}
-use mathlib.Core.List.{_++_}
-use Prim.Native.Nat.{ℕ, _+_, _/_, _%_}
-use Rattle.server.specs.Writes.{as-word, as-double}
-use Rattle.server.proofs.Trying.{tried-none, tried-on}
+use mathlib.Core.Path.{_∙_}
+use Prim.Native.Nat.{_+_, _/_, _%_}
+use Rattle.server.specs.Writes.{as-word}
+use Rattle.server.proofs.Trying.{tried-on}
 use Rattle.server.specs.Writes.{tried}
 use Rattle.server.proofs.storing.put_double.Needs as need
 

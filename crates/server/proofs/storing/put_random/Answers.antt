@@ -1,8 +1,7 @@
-use mathlib.Core.Path.{_≡_, refl, sym, ap, subst, _∙_}
-use mathlib.Core.List.{List, _++_}
+use mathlib.Core.Path.{ap, subst, _∙_}
+use mathlib.Core.List.{List}
 use Prim.Native.Nat.{ℕ, _*_, _^_, _<_}
 use lib.ListN.{drop}
-use Rattle.wire.specs.Numbers.{per-byte}
 use Rattle.request.specs.Entries.{setting-in}
 use Rattle.request.specs.Fields.{list-in}
 use Rattle.request.specs.Writing.{Each}

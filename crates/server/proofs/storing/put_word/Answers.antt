@@ -1,4 +1,4 @@
-use mathlib.Core.Path.{_≡_, sym, ap, _∙_}
+use mathlib.Core.Path.{ap, _∙_}
 use Rattle.device.specs.declared.types.Kind.{Kind}
 use Rattle.server.specs.Writes.{tried, word-write}
 use Rattle.server.proofs.storing.put_word.Needs as need

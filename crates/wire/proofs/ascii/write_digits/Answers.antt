@@ -1,7 +1,6 @@
-use mathlib.Core.Path.{_≡_, sym, ap, _∙_}
+use mathlib.Core.Path.{ap, _∙_}
 use native.Mathlib.Omega.{arith}
-use Prim.Native.Nat.{_+_, _-_, _*_, _/_, _%_, _^_}
-use lib.ListN.{set}
+use Prim.Native.Nat.{_-_, _*_, _/_, _%_}
 use Rattle.wire.specs.Numbers.{base, hex-char}
 use Rattle.wire.proofs.Turns.{digit-put-turn, higher-turn}
 use Rattle.wire.proofs.ascii.write_digits.Needs as need

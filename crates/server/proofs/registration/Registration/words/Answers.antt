@@ -1,10 +1,9 @@
 use mathlib.Core.Path.{_≡_, sym, ap, _∙_}
-use Prim.Native.Nat.{ℕ, _-_, _≤_}
+use Prim.Native.Nat.{_-_}
 use native.Mathlib.Omega.{arith}
-use lib.ListN.{length, take, length-take}
+use lib.ListN.{take, length-take}
 use Rattle.std.proofs.shelf.Lists.{take-map}
 use Rattle.server.specs.declared.registration.Access.{Access}
-use Rattle.device.specs.declared.types.Device.{Device}
 use Rattle.server.specs.Registered.{accesses}
 use Rattle.server.proofs.registration.Registration.words.Needs as need
 

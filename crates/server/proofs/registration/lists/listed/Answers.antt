@@ -1,13 +1,11 @@
-use mathlib.Core.Path.{_≡_, refl, sym, ap, _∙_}
-use mathlib.Core.List.{List, map}
+use mathlib.Core.Path.{_≡_, ap, _∙_}
+use mathlib.Core.List.{List}
 use Prim.Native.Nat.{ℕ, _+_, _-_, _*_, _≤_}
 use native.Mathlib.Omega.{arith}
-use lib.Dec.{lit≤}
 use lib.ListN.{length, drop, take, replicate}
 use lib.Seq.{sets}
 use Rattle.std.specs.declared.option.Option.the-variants.{Some}
 use Rattle.device.specs.declared.types.Device.{Device}
-use Rattle.device.specs.declared.types.Device.the-variants.{M}
 use Rattle.wire.specs.Numbers.{per-byte}
 use Rattle.request.specs.Fields.{list-in}
 use Rattle.request.specs.Entries.{access-in}
