@@ -5,6 +5,7 @@ ghost use lib.ListN.{length, getD};
 use crate::hex::bytes_text;
 use crate::storage::Storage;
 use crate::telling::Exchange;
+use crate::telling::registers;
 use crate::telling::tell;
 use crate::words::CauseNumber;
 use crate::words::CauseNumberDisplay;
@@ -43,6 +44,9 @@ pub struct Bench<M> {
     memory: Locked<M>,
     settings: Settings,
     registration: Registration,
+    // the frame of the last registration that was accepted, and its code: by it a monitor's values are named
+    registered: Vec<u8>,
+    registered_code: Code,
 }
 
 // Digits as they are printed: - where there are none.
@@ -92,11 +96,13 @@ fn show_answer(rt: &LibcRuntime, answer: Answer, space: &[u8]) -> io::Result<()>
 
 impl<M: WritableMemory + Storage> Bench<M> {
     // A bench over a memory: no locks, writing off, nothing registered.
-    pub fn new(memory: M) -> Bench<M> {
+    pub fn new(heap: Global, memory: M) -> Bench<M> {
         Bench {
             memory: Locked::new(memory),
             settings: Settings { write_flag: false },
             registration: Registration::new(),
+            registered: Vec::new(heap),
+            registered_code: Code::Binary,
         }
     }
 
@@ -131,6 +137,7 @@ impl<M: WritableMemory + Storage> Bench<M> {
     pub fn set_up(&mut self, rt: &LibcRuntime, write_flag: bool) -> io::Result<()> {
         self.settings = Settings { write_flag };
         self.registration = Registration::new();
+        self.registered.clear();
         let flag = flag_name(write_flag);
         println!(rt, "server ok")?;
         println!(
@@ -201,6 +208,14 @@ impl<M: WritableMemory + Storage> Bench<M> {
         }
     }
 
+    // Keeps the frame of a registration that was accepted.
+    fn keep(&mut self, code: Code, frame: &[u8]) -> io::Result<()> {
+        self.registered.clear();
+        self.registered.extend_from_slice(frame)?;
+        self.registered_code = code;
+        Ok(())
+    }
+
     pub fn take(
         &mut self,
         rt: &LibcRuntime,
@@ -218,6 +233,9 @@ impl<M: WritableMemory + Storage> Bench<M> {
             &mut self.registration,
         );
         show_answer(rt, answer, reply.as_slice())?;
+        if answer.fault.is_none() && registers(code, frame, space) {
+            self.keep(code, frame)?;
+        }
         let size = answer.length.min(reply.len());
         tell(
             rt,
@@ -227,6 +245,8 @@ impl<M: WritableMemory + Storage> Bench<M> {
                 space,
                 reply: &reply.as_slice()[0..size],
                 answer,
+                registered: self.registered.as_slice(),
+                registered_code: self.registered_code,
             },
         )
     }

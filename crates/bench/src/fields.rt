@@ -22,6 +22,21 @@ pub fn header(code: Code, frame: &[u8], space: usize) -> Result<Header, Fault> {
     }
 }
 
+// The number of one byte at `at`, and where the next field begins.
+pub fn byte(code: Code, bytes: &[u8], at: usize) -> Option<(u8, usize)> {
+    if at > bytes.len() {
+        return None;
+    }
+    let read = match code {
+        Code::Binary => number_at::<Binary>(bytes, at, 1),
+        Code::Ascii => number_at::<Ascii>(bytes, at, 1),
+    };
+    match read {
+        Ok((value, used)) => Some((value as u8, at + used)),
+        Err(_) => None,
+    }
+}
+
 // The number of two bytes at `at`, and where the next field begins.
 pub fn word(code: Code, bytes: &[u8], at: usize) -> Option<(u16, usize)> {
     if at > bytes.len() {
@@ -35,6 +50,27 @@ pub fn word(code: Code, bytes: &[u8], at: usize) -> Option<(u16, usize)> {
         Ok((value, used)) => Some((value as u16, at + used)),
         Err(_) => None,
     }
+}
+
+// The number of four bytes at `at`, and where the next field begins.
+pub fn double(code: Code, bytes: &[u8], at: usize) -> Option<(u32, usize)> {
+    if at > bytes.len() {
+        return None;
+    }
+    let read = match code {
+        Code::Binary => number_at::<Binary>(bytes, at, 4),
+        Code::Ascii => number_at::<Ascii>(bytes, at, 4),
+    };
+    match read {
+        Ok((value, used)) => Some((value, at + used)),
+        Err(_) => None,
+    }
+}
+
+// The bytes from `at` on.
+pub fn rest(bytes: &[u8], at: usize) -> &[u8] {
+    let start = at.min(bytes.len());
+    &bytes[start..]
 }
 
 // The device field at `at`: the device, the number, and where the next field begins.

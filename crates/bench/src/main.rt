@@ -5,12 +5,14 @@ mod cutting;
 mod expected;
 mod fields;
 mod hex;
+mod lists;
 mod making;
 mod numbers;
 mod run;
 mod script;
 mod storage;
 mod telling;
+mod values;
 mod words;
 
 use run::run_calls;

@@ -31,7 +31,7 @@ fn run_section<M: WritableMemory + Storage>(
 ) -> io::Result<usize>
     ensures { λ r. ⌜ made r (λ n. n ≤ length (now (calls .entry))) ⌝ }
 {
-    let mut bench = Bench::new(memory);
+    let mut bench = Bench::new(rt.alloc(), memory);
     for i in 0..calls.len() {
         match &calls[i] {
             Call::Packed { .. } | Call::Image { .. } => return Ok(i),

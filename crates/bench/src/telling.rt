@@ -1,12 +1,24 @@
 // A frame and its reply in plain words.
 ghost use Prim.Native.Nat.{_^_, _<_, _≤_};
 use crate::fields;
+use crate::lists::List;
+use crate::lists::Listed;
+use crate::lists::read_bit_list;
+use crate::lists::read_word_list;
+use crate::lists::tell_counts;
+use crate::lists::tell_list;
+use crate::lists::tell_values;
+use crate::lists::tell_writes;
+use crate::lists::width_name;
+use crate::values::plural;
+use crate::values::tell_comma;
+use crate::values::tell_more;
+use crate::values::tell_unread;
+use crate::values::tell_word;
 use crate::words::CauseNumber;
 use crate::words::CauseNumberDisplay;
 use crate::words::Point;
 use crate::words::PointDisplay;
-use crate::words::Value;
-use crate::words::ValueDisplay;
 use crate::words::cause_words;
 use crate::words::field_words;
 use device::Device;
@@ -30,6 +42,16 @@ pub struct Exchange<'a> {
     // the reply alone
     pub reply: &'a [u8],
     pub answer: Answer,
+    // the frame by which the points to be monitored were registered, and its code; empty where none were
+    pub registered: &'a [u8],
+    pub registered_code: Code,
+}
+
+// A frame of a registration that was accepted.
+#[derive(Clone, Copy)]
+struct Registered<'a> {
+    code: Code,
+    frame: &'a [u8],
 }
 
 // A row of points that a request speaks of: so many words or bits from a point on.
@@ -38,6 +60,8 @@ struct Row {
     device: Device,
     number: u32,
     count: u16,
+    // where the field behind the count stands
+    next: usize,
     ghost small: { number < 2 ^ 24 },
 }
 
@@ -46,28 +70,69 @@ struct Row {
 enum Ask {
     ReadWords(Row),
     ReadBits(Row),
-    // a command that is not told here, or data that cannot be read
+    WriteWords(Row),
+    WriteBits(Row),
+    ReadList(List),
+    WriteList(List),
+    Register(List),
+    Monitor,
+    // a command that is not known, or data that cannot be read
     Other,
 }
 
 // The row of points of a batch request.
 fn read_row(code: Code, frame: &[u8], at: usize) -> Option<Row> {
     let (device, number, next) = fields::device(code, frame, at)?;
-    let (count, _) = fields::word(code, frame, next)?;
+    let (count, next) = fields::word(code, frame, next)?;
     Some(Row {
         device,
         number,
         count,
+        next,
     })
+}
+
+// What a batch request asks for.
+fn read_batch(code: Code, frame: &[u8], header: Header) -> Ask {
+    let row = read_row(code, frame, header.data_at);
+    match (header.command, header.subcommand, row) {
+        (0x0401, 0x0000, Some(row)) => Ask::ReadWords(row),
+        (0x0401, 0x0001, Some(row)) => Ask::ReadBits(row),
+        (0x1401, 0x0000, Some(row)) => Ask::WriteWords(row),
+        (0x1401, 0x0001, Some(row)) => Ask::WriteBits(row),
+        _ => Ask::Other,
+    }
+}
+
+// What a request with a list asks for.
+fn read_listed(code: Code, frame: &[u8], header: Header) -> Ask {
+    let list = match header.subcommand {
+        0x0000 => read_word_list(code, frame, header.data_at),
+        _ => read_bit_list(code, frame, header.data_at),
+    };
+    match (header.command, header.subcommand, list) {
+        (0x0403, 0x0000, Some(list)) => Ask::ReadList(list),
+        (0x0801, 0x0000, Some(list)) => Ask::Register(list),
+        (0x1402, 0x0000 | 0x0001, Some(list)) => Ask::WriteList(list),
+        _ => Ask::Other,
+    }
 }
 
 // What the request of a frame asks for, by its command and subcommand.
 fn read_ask(code: Code, frame: &[u8], header: Header) -> Ask {
-    let batch = read_row(code, frame, header.data_at);
-    match (header.command, header.subcommand, batch) {
-        (0x0401, 0x0000, Some(row)) => Ask::ReadWords(row),
-        (0x0401, 0x0001, Some(row)) => Ask::ReadBits(row),
+    match (header.command, header.subcommand) {
+        (0x0401 | 0x1401, _) => read_batch(code, frame, header),
+        (0x0403 | 0x0801 | 0x1402, _) => read_listed(code, frame, header),
+        (0x0802, 0x0000) => Ask::Monitor,
         _ => Ask::Other,
+    }
+}
+
+// Whether the frame registers points to be monitored, as far as its command says.
+pub fn registers(code: Code, frame: &[u8], space: usize) -> bool {
+    match fields::header(code, frame, space) {
+        Ok(header) => header.command == 0x0801,
+        Err(_) => false,
     }
 }
 
@@ -82,14 +147,6 @@ fn code_name(code: Code) -> &'static str {
     match code {
         Code::Binary => "binary",
         Code::Ascii => "ASCII",
-    }
-}
-
-// The ending of a plural.
-fn plural(count: u16) -> &'static str {
-    match count {
-        1 => "",
-        _ => "s",
     }
 }
 
@@ -113,33 +170,94 @@ fn tell_header(rt: &LibcRuntime, code: Code, header: Header) -> io::Result<()> {
     )
 }
 
+// Tells how many words there are, and from which point on.
+fn tell_word_row(rt: &LibcRuntime, row: Row) -> io::Result<()> {
+    let point = row.first();
+    let count = row.count;
+    let s = plural(count);
+    let of = match row.device.kind() {
+        Kind::Bit => " of 16 points",
+        Kind::Word => "",
+    };
+    print!(rt, "{count} word{s}{of} from {point}")
+}
+
+// Tells how many bits there are, and from which point on.
+fn tell_bit_row(rt: &LibcRuntime, row: Row) -> io::Result<()> {
+    let point = row.first();
+    let count = row.count;
+    let s = plural(count);
+    print!(rt, "{count} bit{s} from {point}")
+}
+
+// Tells a batch write in words with its values.
+fn tell_word_batch(rt: &LibcRuntime, code: Code, row: Row, frame: &[u8]) -> io::Result<()> {
+    print!(rt, "  writes ")?;
+    tell_word_row(rt, row)?;
+    print!(rt, ": ")?;
+    tell_words(rt, code, row, fields::rest(frame, row.next))?;
+    print!(rt, " (command 1401, words)")
+}
+
+// Tells a batch write in bits with its values.
+fn tell_bit_batch(rt: &LibcRuntime, code: Code, row: Row, frame: &[u8]) -> io::Result<()> {
+    print!(rt, "  writes ")?;
+    tell_bit_row(rt, row)?;
+    print!(rt, ": ")?;
+    tell_bits(rt, code, row, fields::rest(frame, row.next))?;
+    print!(rt, " (command 1401, bits)")
+}
+
+// Tells how many accesses a list has, and which.
+fn tell_counted(rt: &LibcRuntime, listed: Listed<'_>) -> io::Result<()> {
+    tell_counts(rt, listed.list)?;
+    print!(rt, ": ")?;
+    tell_list(rt, listed)
+}
+
+// Tells a random write with its values.
+fn tell_random_write(rt: &LibcRuntime, listed: Listed<'_>) -> io::Result<()> {
+    let unit = width_name(listed.list.unit);
+    print!(rt, "  writes ")?;
+    tell_writes(rt, listed)?;
+    print!(rt, " (command 1402, {unit}s)")
+}
+
 // Tells what is asked for.
-fn tell_ask(rt: &LibcRuntime, header: Header, ask: Ask) -> io::Result<()> {
+fn tell_ask(
+    rt: &LibcRuntime,
+    code: Code,
+    frame: &[u8],
+    header: Header,
+    ask: Ask,
+) -> io::Result<()> {
     let command = header.command;
     let subcommand = header.subcommand;
     match ask {
         Ask::ReadWords(row) => {
-            let point = row.first();
-            let count = row.count;
-            let s = plural(count);
-            let of = match row.device.kind() {
-                Kind::Bit => " of 16 points",
-                Kind::Word => "",
-            };
-            print!(
-                rt,
-                "  asks for {count} word{s}{of} from {point} (command 0401, words)"
-            )
+            print!(rt, "  asks for ")?;
+            tell_word_row(rt, row)?;
+            print!(rt, " (command 0401, words)")
         }
         Ask::ReadBits(row) => {
-            let point = row.first();
-            let count = row.count;
-            let s = plural(count);
-            print!(
-                rt,
-                "  asks for {count} bit{s} from {point} (command 0401, bits)"
-            )
+            print!(rt, "  asks for ")?;
+            tell_bit_row(rt, row)?;
+            print!(rt, " (command 0401, bits)")
         }
+        Ask::WriteWords(row) => tell_word_batch(rt, code, row, frame),
+        Ask::WriteBits(row) => tell_bit_batch(rt, code, row, frame),
+        Ask::ReadList(list) => {
+            print!(rt, "  asks for ")?;
+            tell_counted(rt, Listed { code, frame, list })?;
+            print!(rt, " (command 0403)")
+        }
+        Ask::WriteList(list) => tell_random_write(rt, Listed { code, frame, list }),
+        Ask::Register(list) => {
+            print!(rt, "  registers ")?;
+            tell_counted(rt, Listed { code, frame, list })?;
+            print!(rt, " (command 0801)")
+        }
+        Ask::Monitor => print!(rt, "  monitors what is registered (command 0802)"),
         Ask::Other => print!(rt, "  asks by command {command:04X} with {subcommand:04X}"),
     }
 }
@@ -160,56 +278,6 @@ impl Row {
     }
 }
 
-// Tells one word: of a word device the value of one point, of a bit device those of sixteen.
-fn tell_word(rt: &LibcRuntime, device: Device, number: u32, value: u16) -> io::Result<()>
-    requires { ⌜ number < 2 ^ 25 ⌝ }
-{
-    let point = Point { device, number };
-    let kind = device.kind();
-    let shown = Value { kind, value };
-    match kind {
-        Kind::Word => print!(rt, "{point} = {shown}"),
-        Kind::Bit => {
-            let last = Point {
-                device,
-                number: number + 15,
-            };
-            print!(rt, "{point} to {last} = ")?;
-            tell_sixteen(rt, value)
-        }
-    }
-}
-
-// Tells sixteen bits, that of the lowest number first.
-fn tell_sixteen(rt: &LibcRuntime, value: u16) -> io::Result<()> {
-    for i in 0..16u32 {
-        if i == 4 || i == 8 || i == 12 {
-            print!(rt, " ")?;
-        }
-        let bit = (value >> i) % 2;
-        print!(rt, "{bit}")?;
-    }
-    print!(rt, ", the lowest number first (as a word {value:04X}H)")
-}
-
-// Tells what divides a value from the one before.
-fn tell_comma(rt: &LibcRuntime, index: u32) -> io::Result<()> {
-    if index == 0 {
-        print!(rt, "  answered: ")
-    } else {
-        print!(rt, ", ")
-    }
-}
-
-// Tells how many values were not told, and ends the line.
-fn tell_rest(rt: &LibcRuntime, row: Row) -> io::Result<()> {
-    if row.count > 32 {
-        let more = row.count - 32;
-        print!(rt, ", and {more} more")?;
-    }
-    println!(rt, "")
-}
-
 // How many points a word of the device has.
 fn word_points(device: Device) -> u32
     ensures { λ r. ⌜ r ≤ 16 ⌝ }
@@ -220,26 +288,26 @@ fn word_points(device: Device) -> u32
     }
 }
 
-// Tells the words of a reply.
+// Tells the words of a row.
 fn tell_words(rt: &LibcRuntime, code: Code, row: Row, data: &[u8]) -> io::Result<()> {
     let step = word_points(row.device);
     let mut at = 0;
     for i in 0..row.told() {
         let Some((value, next)) = fields::word(code, data, at) else {
-            return println!(rt, "");
+            return tell_unread(rt);
         };
         tell_comma(rt, i)?;
         tell_word(rt, row.device, row.number + i * step, value)?;
         at = next;
     }
-    tell_rest(rt, row)
+    tell_more(rt, row.count as u32)
 }
 
-// Tells the bits of a reply.
+// Tells the bits of a row.
 fn tell_bits(rt: &LibcRuntime, code: Code, row: Row, data: &[u8]) -> io::Result<()> {
     for i in 0..row.told() {
         let Some(value) = fields::bit(code, data, i as usize) else {
-            return println!(rt, "");
+            return tell_unread(rt);
         };
         let point = Point {
             device: row.device,
@@ -248,7 +316,7 @@ fn tell_bits(rt: &LibcRuntime, code: Code, row: Row, data: &[u8]) -> io::Result<
         tell_comma(rt, i)?;
         print!(rt, "{point} = {value}")?;
     }
-    tell_rest(rt, row)
+    tell_more(rt, row.count as u32)
 }
 
 // How many wire bytes a reply has before its data.
@@ -263,27 +331,66 @@ fn data_start(code: Code, form: Form) -> usize {
     }
 }
 
+// Tells the values that a monitor was answered, by the list of the registration.
+fn tell_monitored(
+    rt: &LibcRuntime,
+    registered: Registered<'_>,
+    code: Code,
+    data: &[u8],
+) -> io::Result<()> {
+    let frame = registered.frame;
+    let Ok(header) = fields::header(registered.code, frame, 4096) else {
+        return tell_unread(rt);
+    };
+    match read_ask(registered.code, frame, header) {
+        Ask::Register(list) => tell_values(
+            rt,
+            Listed {
+                code: registered.code,
+                frame,
+                list,
+            },
+            code,
+            data,
+        ),
+        _ => tell_unread(rt),
+    }
+}
+
 // Tells what was answered to a request that was accepted.
 fn tell_answer(
     rt: &LibcRuntime,
-    code: Code,
+    exchange: Exchange<'_>,
     header: Header,
     ask: Ask,
-    reply: &[u8],
 ) -> io::Result<()> {
-    let start = data_start(code, header.form);
-    if start > reply.len() {
-        return println!(rt, "  answered by a reply that is too short");
-    }
-    let data = &reply[start..];
+    let code = exchange.code;
+    let frame = exchange.frame;
+    let data = fields::rest(exchange.reply, data_start(code, header.form));
     match ask {
-        Ask::ReadWords(row) => tell_words(rt, code, row, data),
-        Ask::ReadBits(row) => tell_bits(rt, code, row, data),
-        Ask::Other => {
-            let size = data.len();
-            println!(rt, "  answered: accepted, with {size} bytes of data")
+        Ask::ReadWords(row) => {
+            print!(rt, "  answered: ")?;
+            tell_words(rt, code, row, data)?;
         }
+        Ask::ReadBits(row) => {
+            print!(rt, "  answered: ")?;
+            tell_bits(rt, code, row, data)?;
+        }
+        Ask::ReadList(list) => {
+            print!(rt, "  answered: ")?;
+            tell_values(rt, Listed { code, frame, list }, code, data)?;
+        }
+        Ask::Monitor => {
+            print!(rt, "  answered: ")?;
+            let registered = Registered {
+                code: exchange.registered_code,
+                frame: exchange.registered,
+            };
+            tell_monitored(rt, registered, code, data)?;
+        }
+        _ => print!(rt, "  done")?,
     }
+    println!(rt, "")
 }
 
 // Tells why a frame was not taken up.
@@ -334,11 +441,11 @@ fn tell_text(rt: &LibcRuntime, code: Code, reply: &[u8]) -> io::Result<()> {
 fn tell_taken(rt: &LibcRuntime, exchange: Exchange<'_>, header: Header) -> io::Result<()> {
     let code = exchange.code;
     let ask = read_ask(code, exchange.frame, header);
-    tell_ask(rt, header, ask)?;
+    tell_ask(rt, code, exchange.frame, header, ask)?;
     tell_header(rt, code, header)?;
     match exchange.answer.fault {
         Some(fault) => tell_refused(rt, fault)?,
-        None => tell_answer(rt, code, header, ask, exchange.reply)?,
+        None => tell_answer(rt, exchange, header, ask)?,
     }
     tell_text(rt, code, exchange.reply)
 }
