@@ -12,3 +12,5 @@ pub fn worked_examples() -> u8
 
 #[cfg(test)]
 mod tests;
+#[cfg(test)]
+mod windows;

@@ -5,9 +5,11 @@ mod serve;
 mod settings;
 mod showing;
 mod storing;
+mod window;
 
 pub use registration::Access;
 pub use registration::Registration;
 pub use serve::Answer;
 pub use serve::take_frame;
 pub use settings::Settings;
+pub use window::Window;
