@@ -13,7 +13,7 @@ use Rattle.frame.specs.Replies.{head-size, head-bytes, reply-bytes}
 use Rattle.frame.proofs.Heads.{length-head, head-then-data}
 use Rattle.std.specs.declared.option.Option.the-variants.{None}
 use Rattle.memory.specs.Meaning.{Meaning}
-use Rattle.server.specs.declared.serve.Answer.{Answer}
+use Rattle.server.specs.declared.answer.Answer.{Answer}
 use Rattle.server.specs.Answers.{accepted, no-data, answer-bytes}
 use Rattle.server.specs.Registered.{Listed}
 use Rattle.server.specs.Writes.{Write, tried, All-taken}

@@ -17,7 +17,7 @@ use Rattle.frame.specs.declared.header.Header.{Header}
 use Rattle.frame.specs.Headers.{tested}
 use Rattle.request.specs.Requests.{Asked, read-bits, read-words, write-bits, write-words, random-read, register, monitor, random-bits, random-write}
 use Rattle.request.specs.Readings.{request-in}
-use Rattle.server.specs.declared.serve.Answer.{Answer}
+use Rattle.server.specs.declared.answer.Answer.{Answer}
 use Rattle.server.specs.Registered.{Listed}
 use Rattle.server.specs.Serves.{Served, Came, done, late-fault, answered, taken-up, served}
 use Rattle.server.specs.Laws.{Faults-move-nothing, Space-kept}

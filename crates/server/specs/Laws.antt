@@ -7,7 +7,7 @@ use lib.ListN.{drop}
 use Rattle.std.specs.Options.{isSome}
 use Rattle.std.specs.declared.option.Option.{Option}
 use Rattle.memory.specs.Meaning.{Meaning}
-use Rattle.server.specs.declared.serve.Answer.{Answer}
+use Rattle.server.specs.declared.answer.Answer.{Answer}
 use Rattle.server.specs.Registered.{Listed}
 
 -- a call that meets a fault moves no point and leaves the registration as it was

@@ -18,7 +18,7 @@ use Rattle.frame.specs.Faults.{fault}
 use Rattle.frame.specs.Headers.{tested}
 use Rattle.request.specs.Requests.{Asked, read-bits, read-words, write-bits, write-words, random-read, register, monitor, random-bits, random-write}
 use Rattle.request.specs.Readings.{request-in}
-use Rattle.server.specs.declared.serve.Answer.{Answer}
+use Rattle.server.specs.declared.answer.Answer.{Answer}
 use Rattle.server.specs.declared.points.Width.the-variants.{Word, Double}
 use Rattle.server.specs.Points.{words, bits, values-of}
 use Rattle.server.specs.Writes.{Write, stored, in-row, as-point, as-word, as-double, as-words, each}

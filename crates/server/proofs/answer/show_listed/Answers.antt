@@ -16,7 +16,7 @@ use Rattle.server.specs.Registered.{accesses, doubles-in}
 use Rattle.server.specs.Serves.{Tells}
 use Rattle.server.proofs.Shows.{length-values, length-values-of}
 use Rattle.server.proofs.Telling.{told}
-use Rattle.server.proofs.serve.show_listed.Needs as need
+use Rattle.server.proofs.answer.show_listed.Needs as need
 
 pub returns : need.returns
 returns g c =

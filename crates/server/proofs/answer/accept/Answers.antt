@@ -3,7 +3,7 @@ use mathlib.Core.List.{[]}
 use native.Mathlib.Omega.{arith}
 use Rattle.std.specs.declared.option.Option.the-variants.{None}
 use Rattle.server.proofs.Telling.{told}
-use Rattle.server.proofs.serve.accept.Needs as need
+use Rattle.server.proofs.answer.accept.Needs as need
 
 pub returns : need.returns
 returns g c =

@@ -4,7 +4,7 @@ use Rattle.wire.specs.Points.{bits-bytes, bits-size}
 use Rattle.server.specs.Points.{bits}
 use Rattle.server.proofs.Shows.{length-bits-bytes, length-bits}
 use Rattle.server.proofs.Telling.{told}
-use Rattle.server.proofs.serve.show_bits.Needs as need
+use Rattle.server.proofs.answer.show_bits.Needs as need
 
 pub returns : need.returns
 returns g c =

@@ -5,7 +5,7 @@ use Rattle.wire.specs.Series.{values-bytes}
 use Rattle.server.specs.Points.{words}
 use Rattle.server.proofs.Shows.{length-values, length-words}
 use Rattle.server.proofs.Telling.{told}
-use Rattle.server.proofs.serve.show_words.Needs as need
+use Rattle.server.proofs.answer.show_words.Needs as need
 
 pub returns : need.returns
 returns g c =

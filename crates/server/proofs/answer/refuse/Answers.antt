@@ -7,7 +7,7 @@ use Rattle.frame.specs.Replies.{head-bytes, error-numbers}
 use Rattle.frame.proofs.Heads.{length-error}
 use Rattle.wire.specs.Series.{series-bytes}
 use Rattle.server.proofs.Telling.{told}
-use Rattle.server.proofs.serve.refuse.Needs as need
+use Rattle.server.proofs.answer.refuse.Needs as need
 
 pub returns : need.returns
 returns g c =
