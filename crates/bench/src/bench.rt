@@ -2,10 +2,10 @@
 ghost use mathlib.Core.Path.{_≡_};
 ghost use Prim.Native.Nat.{ℕ, _-_, _<_, _≤_};
 ghost use lib.ListN.{length, getD};
+use crate::asking::registers;
 use crate::hex::bytes_text;
 use crate::storage::Storage;
 use crate::telling::Exchange;
-use crate::telling::registers;
 use crate::telling::tell;
 use crate::words::CauseNumber;
 use crate::words::CauseNumberDisplay;

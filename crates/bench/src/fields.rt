@@ -1,5 +1,5 @@
 // The fields of a frame or a reply, in the code that a call names.
-ghost use Prim.Native.Nat.{_^_, _<_, _≤_};
+ghost use Prim.Native.Nat.{_^_, _<_};
 ghost use Rattle.std.specs.Slices.{found};
 use device::Device;
 use frame::Fault;

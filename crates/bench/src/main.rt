@@ -1,4 +1,5 @@
 // Reads a script of calls from standard input, carries them out on a device memory and prints what each did.
+mod asking;
 mod bench;
 mod call;
 mod cutting;
@@ -8,6 +9,7 @@ mod hex;
 mod lists;
 mod making;
 mod numbers;
+mod rows;
 mod run;
 mod script;
 mod storage;

@@ -1,28 +1,23 @@
 // A frame and its reply in plain words.
-ghost use Prim.Native.Nat.{_^_, _<_, _≤_};
+use crate::asking::Ask;
+use crate::asking::read_ask;
 use crate::fields;
-use crate::lists::List;
 use crate::lists::Listed;
-use crate::lists::read_bit_list;
-use crate::lists::read_word_list;
 use crate::lists::tell_counts;
 use crate::lists::tell_list;
 use crate::lists::tell_values;
 use crate::lists::tell_writes;
 use crate::lists::width_name;
-use crate::values::plural;
-use crate::values::tell_comma;
-use crate::values::tell_more;
+use crate::rows::Row;
+use crate::rows::tell_bit_row;
+use crate::rows::tell_bits;
+use crate::rows::tell_word_row;
+use crate::rows::tell_words;
 use crate::values::tell_unread;
-use crate::values::tell_word;
 use crate::words::CauseNumber;
 use crate::words::CauseNumberDisplay;
-use crate::words::Point;
-use crate::words::PointDisplay;
 use crate::words::cause_words;
 use crate::words::field_words;
-use device::Device;
-use device::Kind;
 use frame::Cause;
 use frame::Fault;
 use frame::Form;
@@ -52,88 +47,6 @@ pub struct Exchange<'a> {
 struct Registered<'a> {
     code: Code,
     frame: &'a [u8],
-}
-
-// A row of points that a request speaks of: so many words or bits from a point on.
-#[derive(Clone, Copy)]
-struct Row {
-    device: Device,
-    number: u32,
-    count: u16,
-    // where the field behind the count stands
-    next: usize,
-    ghost small: { number < 2 ^ 24 },
-}
-
-// What a request asks for.
-#[derive(Clone, Copy)]
-enum Ask {
-    ReadWords(Row),
-    ReadBits(Row),
-    WriteWords(Row),
-    WriteBits(Row),
-    ReadList(List),
-    WriteList(List),
-    Register(List),
-    Monitor,
-    // a command that is not known, or data that cannot be read
-    Other,
-}
-
-// The row of points of a batch request.
-fn read_row(code: Code, frame: &[u8], at: usize) -> Option<Row> {
-    let (device, number, next) = fields::device(code, frame, at)?;
-    let (count, next) = fields::word(code, frame, next)?;
-    Some(Row {
-        device,
-        number,
-        count,
-        next,
-    })
-}
-
-// What a batch request asks for.
-fn read_batch(code: Code, frame: &[u8], header: Header) -> Ask {
-    let row = read_row(code, frame, header.data_at);
-    match (header.command, header.subcommand, row) {
-        (0x0401, 0x0000, Some(row)) => Ask::ReadWords(row),
-        (0x0401, 0x0001, Some(row)) => Ask::ReadBits(row),
-        (0x1401, 0x0000, Some(row)) => Ask::WriteWords(row),
-        (0x1401, 0x0001, Some(row)) => Ask::WriteBits(row),
-        _ => Ask::Other,
-    }
-}
-
-// What a request with a list asks for.
-fn read_listed(code: Code, frame: &[u8], header: Header) -> Ask {
-    let list = match header.subcommand {
-        0x0000 => read_word_list(code, frame, header.data_at),
-        _ => read_bit_list(code, frame, header.data_at),
-    };
-    match (header.command, header.subcommand, list) {
-        (0x0403, 0x0000, Some(list)) => Ask::ReadList(list),
-        (0x0801, 0x0000, Some(list)) => Ask::Register(list),
-        (0x1402, 0x0000 | 0x0001, Some(list)) => Ask::WriteList(list),
-        _ => Ask::Other,
-    }
-}
-
-// What the request of a frame asks for, by its command and subcommand.
-fn read_ask(code: Code, frame: &[u8], header: Header) -> Ask {
-    match (header.command, header.subcommand) {
-        (0x0401 | 0x1401, _) => read_batch(code, frame, header),
-        (0x0403 | 0x0801 | 0x1402, _) => read_listed(code, frame, header),
-        (0x0802, 0x0000) => Ask::Monitor,
-        _ => Ask::Other,
-    }
-}
-
-// Whether the frame registers points to be monitored, as far as its command says.
-pub fn registers(code: Code, frame: &[u8], space: usize) -> bool {
-    match fields::header(code, frame, space) {
-        Ok(header) => header.command == 0x0801,
-        Err(_) => false,
-    }
 }
 
 fn form_name(form: Form) -> &'static str {
@@ -168,26 +81,6 @@ fn tell_header(rt: &LibcRuntime, code: Code, header: Header) -> io::Result<()> {
         rt,
         ", route network {network}, PC {pc}, module {module_io:04X}, station {station}"
     )
-}
-
-// Tells how many words there are, and from which point on.
-fn tell_word_row(rt: &LibcRuntime, row: Row) -> io::Result<()> {
-    let point = row.first();
-    let count = row.count;
-    let s = plural(count);
-    let of = match row.device.kind() {
-        Kind::Bit => " of 16 points",
-        Kind::Word => "",
-    };
-    print!(rt, "{count} word{s}{of} from {point}")
-}
-
-// Tells how many bits there are, and from which point on.
-fn tell_bit_row(rt: &LibcRuntime, row: Row) -> io::Result<()> {
-    let point = row.first();
-    let count = row.count;
-    let s = plural(count);
-    print!(rt, "{count} bit{s} from {point}")
 }
 
 // Tells a batch write in words with its values.
@@ -260,63 +153,6 @@ fn tell_ask(
         Ask::Monitor => print!(rt, "  monitors what is registered (command 0802)"),
         Ask::Other => print!(rt, "  asks by command {command:04X} with {subcommand:04X}"),
     }
-}
-
-impl Row {
-    fn first(self) -> Point {
-        Point {
-            device: self.device,
-            number: self.number,
-        }
-    }
-
-    // How many of its values are told: the first 32 at most.
-    fn told(self) -> u32
-        ensures { λ r. ⌜ r ≤ 32 ⌝ }
-    {
-        (self.count as u32).min(32)
-    }
-}
-
-// How many points a word of the device has.
-fn word_points(device: Device) -> u32
-    ensures { λ r. ⌜ r ≤ 16 ⌝ }
-{
-    match device.kind() {
-        Kind::Bit => 16,
-        Kind::Word => 1,
-    }
-}
-
-// Tells the words of a row.
-fn tell_words(rt: &LibcRuntime, code: Code, row: Row, data: &[u8]) -> io::Result<()> {
-    let step = word_points(row.device);
-    let mut at = 0;
-    for i in 0..row.told() {
-        let Some((value, next)) = fields::word(code, data, at) else {
-            return tell_unread(rt);
-        };
-        tell_comma(rt, i)?;
-        tell_word(rt, row.device, row.number + i * step, value)?;
-        at = next;
-    }
-    tell_more(rt, row.count as u32)
-}
-
-// Tells the bits of a row.
-fn tell_bits(rt: &LibcRuntime, code: Code, row: Row, data: &[u8]) -> io::Result<()> {
-    for i in 0..row.told() {
-        let Some(value) = fields::bit(code, data, i as usize) else {
-            return tell_unread(rt);
-        };
-        let point = Point {
-            device: row.device,
-            number: row.number + i,
-        };
-        tell_comma(rt, i)?;
-        print!(rt, "{point} = {value}")?;
-    }
-    tell_more(rt, row.count as u32)
 }
 
 // How many wire bytes a reply has before its data.
