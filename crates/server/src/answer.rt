@@ -32,7 +32,7 @@ pub struct Answer {
 }
 
 // The error reply.
-pub fn refuse<C: WireCode>(reply: &mut [u8], header: Header, fault: Fault) -> Answer
+pub(crate) fn refuse<C: WireCode>(reply: &mut [u8], header: Header, fault: Fault) -> Answer
     requires { ⌜ 4096 ≤ length (now reply) ⌝ }
     ensures { λ r. ⌜ Tells (header .size) (answer-bytes (C·WireCode .which) header (refused (fault .cause))) (Some fault) r (now (reply .entry)) (now (reply .exit)) ⌝ }
 {
@@ -46,7 +46,7 @@ pub fn refuse<C: WireCode>(reply: &mut [u8], header: Header, fault: Fault) -> An
 }
 
 // The reply to a batch read in words.
-pub fn show_words<C: WireCode, M: ReadableMemory>(
+pub(crate) fn show_words<C: WireCode, M: ReadableMemory>(
     reply: &mut [u8],
     header: Header,
     memory: &M,
@@ -68,7 +68,7 @@ pub fn show_words<C: WireCode, M: ReadableMemory>(
 }
 
 // The reply to a batch read in bits.
-pub fn show_bits<C: WireCode, M: ReadableMemory>(
+pub(crate) fn show_bits<C: WireCode, M: ReadableMemory>(
     reply: &mut [u8],
     header: Header,
     memory: &M,
@@ -90,7 +90,7 @@ pub fn show_bits<C: WireCode, M: ReadableMemory>(
 }
 
 // The reply to a request that was carried out and has no data to show.
-pub fn accept<C: WireCode>(reply: &mut [u8], header: Header) -> Answer
+pub(crate) fn accept<C: WireCode>(reply: &mut [u8], header: Header) -> Answer
     requires { ⌜ 4096 ≤ length (now reply) ⌝ }
     ensures { λ r. ⌜ Tells (header .size) (answer-bytes (C·WireCode .which) header (accepted no-data)) None r (now (reply .entry)) (now (reply .exit)) ⌝ }
 {
@@ -103,7 +103,7 @@ pub fn accept<C: WireCode>(reply: &mut [u8], header: Header) -> Answer
 }
 
 // The reply that shows a list of accesses.
-pub fn show_listed<C: WireCode, M: ReadableMemory>(
+pub(crate) fn show_listed<C: WireCode, M: ReadableMemory>(
     reply: &mut [u8],
     header: Header,
     memory: &M,
@@ -126,7 +126,7 @@ pub fn show_listed<C: WireCode, M: ReadableMemory>(
 }
 
 // The reply to a monitor request: the registered list, or that there is none.
-pub fn show_registered<C: WireCode, M: ReadableMemory>(
+pub(crate) fn show_registered<C: WireCode, M: ReadableMemory>(
     reply: &mut [u8],
     header: Header,
     memory: &M,
