@@ -1,4 +1,6 @@
 // Reads a script of calls from standard input, carries them out on a device memory and prints what each did.
+#![tactic(auto)]
+
 mod asking;
 mod batch;
 mod bench;

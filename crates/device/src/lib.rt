@@ -1,4 +1,6 @@
 // The twelve devices of a bench, and the constant table that says how each is named on the wire.
+#![tactic(auto)]
+
 mod table;
 mod types;
 

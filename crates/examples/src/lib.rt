@@ -1,4 +1,6 @@
 // Worked examples: frames and replies written out by hand, computed from the definitions together.
+#![tactic(auto)]
+
 ghost use Rattle.std.specs.Prelude.{◌≡◌, true};
 ghost use Rattle.examples.specs.Worked.{worked};
 ghost use Rattle.examples.specs.Runs.{runs_worked};

@@ -1,4 +1,6 @@
 // Request and reply frames: the tests of a frame in their fixed order, its header, and the frame of a reply.
+#![tactic(auto)]
+
 mod fault;
 mod header;
 mod reading;

@@ -1,4 +1,6 @@
 // Histories of calls: frames, values set by the bench, and calibration windows, carried out one after the other.
+#![tactic(auto)]
+
 mod both;
 mod call;
 mod live;

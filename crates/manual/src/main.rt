@@ -1,4 +1,6 @@
 // Compares the worked examples of the manuals with what the server answers, in both codes.
+#![tactic(auto)]
+
 mod compare;
 mod frames;
 mod points;

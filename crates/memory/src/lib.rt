@@ -1,4 +1,6 @@
 // Device memories: what they are, by two traits, and where they keep their points.
+#![tactic(auto)]
+
 mod image;
 mod layout;
 mod lending;

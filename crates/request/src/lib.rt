@@ -1,4 +1,6 @@
 // Reads a request's data, field by field, and tests it over the memory that it is for.
+#![tactic(auto)]
+
 mod batch;
 mod entries;
 mod fields;

@@ -1,4 +1,6 @@
 // The server: takes one request frame at a time, carries it out on a device memory and writes one reply frame.
+#![tactic(auto)]
+
 mod answer;
 mod points;
 mod registration;

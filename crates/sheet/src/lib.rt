@@ -1,4 +1,6 @@
 // Sheets of recorded requests, carried out one after the other in a calibration window.
+#![tactic(auto)]
+
 mod record;
 mod run;
 

@@ -1,4 +1,6 @@
 // Numbers and device fields on the wire, in binary and in ASCII.
+#![tactic(auto)]
+
 mod ascii;
 mod binary;
 mod code;

@@ -9,7 +9,7 @@ returns-then-has-symbol c =
 
 pub loop-row-preserved : goal.loop-row-preserved
 loop-row-preserved c =
-    row_passed (has_symbol c.args.first c.args.second) c.args.table.now c.loop-row.row-index no_row (omega arith) (sym c.if-has-symbol.ensures) ∙ c.loop-row.invariant
+    row_passed (has_symbol c.args.first c.args.second) c.args.table.now c.loop-row.row-index no_row (omega arith) (sym c.if-has_symbol.ensures) ∙ c.loop-row.invariant
 
 pub returns : goal.returns
 returns c = sym (sym c.loop-row.invariant ∙ rows_ended (has_symbol c.args.first c.args.second) c.args.table.now c.loop-row.row-index (omega arith))
