@@ -17,4 +17,4 @@ returns c =
     let xs = c.args.bytes.now in
     let text = string_bytes c.loop-byte.text in
     let all : text ≡ bytes_text xs = sym (append-nil text) ∙ ap (λ ys. text ++ bytes_text ys) (sym (drop_all c.loop-byte.byte-index xs c.loop-byte-test.false)) ∙ c.loop-byte.invariant in
-    record { text = all; back = ap bytes_in all ∙ text_back xs (λ i. omega (arith, c.type-inv.bytes i)) }
+    record { text = all; back = ap bytes_in all ∙ text_back xs (λ i. omega (arith, c.type_inv.bytes i)) }

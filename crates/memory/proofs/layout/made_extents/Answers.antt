@@ -4,7 +4,7 @@ use Rattle.memory.proofs.layout.made_extents.Goals as goal
 pub returns : goal.returns
 returns c =
     record {
-      value = c.made-of.ensures;
-      small = rw c.made-of.ensures (made_small c.args.form c.args.extents c.args.units);
-      fits = rw c.made-of.ensures (made_fits c.args.form c.args.extents c.args.units);
+      value = c.made_of.ensures;
+      small = rw c.made_of.ensures (made_small c.args.form c.args.extents c.args.units);
+      fits = rw c.made_of.ensures (made_fits c.args.form c.args.extents c.args.units);
     }

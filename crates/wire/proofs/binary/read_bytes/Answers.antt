@@ -11,5 +11,5 @@ loop-i-preserved c =
     let i = c.loop-i.i in
     rw c.joined-value.ensures (
       low_turn c.args.bytes.now i c.args.size c.loop-i.value (omega arith) (omega arith) (omega arith) c.loop-i.invariant.0,
-      byte_more c.loop-i.value (get_or c.args.bytes.now (i - 1) 0) (c.args.size - i) (c.args.size - (i - 1)) (omega arith) c.loop-i.invariant.1 (omega (arith, c.type-inv.bytes (i - 1))),
+      byte_more c.loop-i.value (get_or c.args.bytes.now (i - 1) 0) (c.args.size - i) (c.args.size - (i - 1)) (omega arith) c.loop-i.invariant.1 (omega (arith, c.type_inv.bytes (i - 1))),
     )

@@ -8,6 +8,6 @@ returns g c =
     let xs = c.args.bytes.now in
     let part = whole_part c.args.at xs in
     record {
-      value = simp part at c.read-number.ensures.value;
-      within = within_whole xs c.args.at (λ x. x.1) (λ x. x.0 < 256 ^ c.args.size) (λ x. x.1 ≡ c.args.size * per_byte g.C.WireCode.which) (omega arith) c.read-number.result (simp part at c.read-number.ensures.within);
+      value = simp part at c.read_number.ensures.value;
+      within = within_whole xs c.args.at (λ x. x.1) (λ x. x.0 < 256 ^ c.args.size) (λ x. x.1 ≡ c.args.size * per_byte g.C.WireCode.which) (omega arith) c.read_number.result (simp part at c.read_number.ensures.within);
     }

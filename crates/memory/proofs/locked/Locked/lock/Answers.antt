@@ -9,6 +9,6 @@ returns g c =
     let a = c.add.ensures in
     record {
       answer = search rules;
-      locks = lock_added s.ranges s.count c.held-held.result c.args.range h.least h.room c.if-not-may-lock.ensures a.ranges a.count;
+      locks = lock_added s.ranges s.count c.held-held.result c.args.range h.least h.room c.if-not-may_lock.ensures a.ranges a.count;
       below = a.below;
     }

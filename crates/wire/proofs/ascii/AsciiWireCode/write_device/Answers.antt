@@ -15,11 +15,11 @@ returns c =
     let d = c.args.device in
     let n = c.args.number in
     let ds = digit_chars (notation_of d) 6 n in
-    let symbol : c.write-symbol.new.out ≡ sets out at (symbol_of d) = c.write-symbol.ensures ∙ symbol_stored d out at in
-    let written : c.write-device-number.new.out ≡ sets out at (encode_device Ascii d n) =
-    c.write-device-number.ensures ∙ ap (λ l. sets l (at + 2) ds) symbol ∙ sets_sets out at 2 (symbol_of d) ds (length_symbol d) in
+    let symbol : c.write_symbol.new.out ≡ sets out at (symbol_of d) = c.write_symbol.ensures ∙ symbol_stored d out at in
+    let written : c.write_device_number.new.out ≡ sets out at (encode_device Ascii d n) =
+    c.write_device_number.ensures ∙ ap (λ l. sets l (at + 2) ds) symbol ∙ sets_sets out at 2 (symbol_of d) ds (length_symbol d) in
     record {
-      used = c.field-size.ensures;
+      used = c.field_size.ensures;
       written = written;
       back = λ below. ap (λ l. device_in Ascii (drop at l)) written ∙ device_stored Ascii d n out at (omega arith) below;
     }

@@ -6,7 +6,7 @@ use Rattle.wire.proofs.ascii.AsciiWireCode.write_number.Goals as goal
 
 pub returns : goal.returns
 returns c =
-    let written = c.write-digits.ensures in
+    let written = c.write_digits.ensures in
     record {
       used = search rules;
       written = written;

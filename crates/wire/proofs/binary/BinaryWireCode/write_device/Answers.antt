@@ -14,10 +14,10 @@ returns c =
     let at = c.args.at in
     let d = c.args.device in
     let n = c.args.number in
-    let written : c.write-code.new.out ≡ sets out at (encode_device Binary d n) =
-    c.write-code.ensures ∙ ap (λ l. set l (at + 3) (code_of d)) c.write-bytes.ensures ∙ sets_sets out at 3 (low_bytes 3 n) (code_of d ∷ []) refl in
+    let written : c.write_code.new.out ≡ sets out at (encode_device Binary d n) =
+    c.write_code.ensures ∙ ap (λ l. set l (at + 3) (code_of d)) c.write_bytes.ensures ∙ sets_sets out at 3 (low_bytes 3 n) (code_of d ∷ []) refl in
     record {
-      used = c.field-size.ensures;
+      used = c.field_size.ensures;
       written = written;
       back = λ below. ap (λ l. device_in Binary (drop at l)) written ∙ device_stored Binary d n out at (omega arith) below;
     }

@@ -6,7 +6,7 @@ use Rattle.wire.proofs.binary.BinaryWireCode.write_number.Goals as goal
 
 pub returns : goal.returns
 returns c =
-    let written = c.write-bytes.ensures in
+    let written = c.write_bytes.ensures in
     record {
       used = search rules;
       written = written;
