@@ -3,11 +3,11 @@ use Rattle.frame.specs.Headers.{tested}
 use Rattle.frame.proofs.Written.{so_taken_up}
 use Rattle.frame.proofs.reading.read_frame.Goals as goal
 
-pub returns-in-err-form : goal.returns-in-err-form
-returns-in-err-form g c =
+pub returns-in_err-form : goal.returns-in_err-form
+returns-in_err-form g c =
     let code = g.C.WireCode.which in
     let x = c.args in
-    let r = c.from-residual.result in
+    let r = c.from_residual.result in
     let is : r ≡ tested code x.space x.frame.now = search rules in
     record { value = is; within = search rules; back = so_taken_up code x.space x.frame.now r is }
 
@@ -15,6 +15,6 @@ pub returns : goal.returns
 returns g c =
     let code = g.C.WireCode.which in
     let x = c.args in
-    let r = c.read-fields.result in
+    let r = c.read_fields.result in
     let is : r ≡ tested code x.space x.frame.now = search rules in
     record { value = is; within = search rules; back = so_taken_up code x.space x.frame.now r is }
