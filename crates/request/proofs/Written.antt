@@ -32,12 +32,12 @@ module _ (bytes xs rest : List ℕ) (at n : ℕ) (long : length xs ≡ n) (s : S
 -- a number
 pub number_back : (code : Code) (bytes rest : List ℕ) (at size v : ℕ) → v < 256 ^ size → Stands bytes (encode code size v ++ rest) at
     → number_at code bytes at size ≡ Ok (v, size * per_byte code)
-number_back code bytes rest at size v below s = rw (s.here, wire.number-back code size v rest below)
+number_back code bytes rest at size v below s = rw (s.here, wire.number_back code size v rest below)
 
 -- a device field
 pub device_back : (code : Code) (bytes rest : List ℕ) (at : ℕ) (d : Device) (i : ℕ) → i < number_limit code d → Stands bytes (encode_device code d i ++ rest) at
     → device_at code bytes at ≡ Ok (d, i, 4 * per_byte code)
-device_back code bytes rest at d i small s = rw (s.here, wire.device-back code d i rest small)
+device_back code bytes rest at d i small s = rw (s.here, wire.device_back code d i rest small)
 
 -- a pair of counts
 pub length_pair : (code : Code) (w d : ℕ) → length (encode code 1 w ++ encode code 1 d) ≡ 2 * per_byte code
@@ -77,7 +77,7 @@ values_back : (code : Code) (rest vs : List ℕ) → Each (λ v. v < 65536) vs �
 values_back code rest [] ok = refl
 values_back code rest (v ∷ vs) ok =
     let tail = write_values code vs ++ rest in
-    rw (append_assoc (encode code 2 v) (write_values code vs) rest, wire.number-back code 2 v tail ok.0, drop_at (encode code 2 v) tail (2 * per_byte code) (length_encode code 2 v))
+    rw (append_assoc (encode code 2 v) (write_values code vs) rest, wire.number_back code 2 v tail ok.0, drop_at (encode code 2 v) tail (2 * per_byte code) (length_encode code 2 v))
     (ap (λ ws. v ∷ ws) (values_back code rest vs ok.1))
 
 pub words_back : (code : Code) (bytes rest : List ℕ) (vs : List ℕ) (at : ℕ) → Each (λ v. v < 65536) vs → Stands bytes (write_values code vs ++ rest) at

@@ -9,14 +9,14 @@ use Rattle.request.proofs.batch.check_bits.Goals as goal
 abbrev stepped : Result ℕ Fault → Result (ℕ × ℕ) Fault
 stepped y = then y (λ d. Ok (d, 1))
 
-pub returns-in-err--digit : goal.returns-in-err--digit
-returns-in-err--digit g c =
-    let p = err_from_is_err_and c.from-residual.result c.from-residual.ensures.1 in
+pub returns-in_err-_digit : goal.returns-in_err-_digit
+returns-in_err-_digit g c =
+    let p = err_from_is_err_and c.from_residual.result c.from_residual.ensures.1 in
     let r = half_at g.C.WireCode.which c.args.bytes.now c.args.at in
-    let e = stops r c.args.count c.loop-i.i c.loop-i.i (omega arith) _ (ap stepped (sym c.in-err--digit.ensures)) in
+    let e = stops r c.args.count c.loop-i.i c.loop-i.i (omega arith) _ (ap stepped (sym c.in_err-_digit.ensures)) in
     rw (p.1, p.2) (sym (sym c.loop-i.invariant ∙ e))
 
 pub loop-i-preserved : goal.loop-i-preserved
 loop-i-preserved g c =
     let r = half_at g.C.WireCode.which c.args.bytes.now c.args.at in
-    goes_on r c.args.count c.loop-i.i c.loop-i.i (omega arith) _ (ap stepped (sym c.in-ok--digit.ensures)) ∙ c.loop-i.invariant
+    goes_on r c.args.count c.loop-i.i c.loop-i.i (omega arith) _ (ap stepped (sym c.in_ok-_digit.ensures)) ∙ c.loop-i.invariant

@@ -6,18 +6,18 @@ use Rattle.request.proofs.Parts.{value_reads}
 use Rattle.request.proofs.Turns.{stops, goes_on, none_left, all_there}
 use Rattle.request.proofs.batch.check_words.Goals as goal
 
-pub returns-in-err-used : goal.returns-in-err-used
-returns-in-err-used g c =
-    let p = err_from_is_err_and c.from-residual.result c.from-residual.ensures.1 in
+pub returns-in_err-used : goal.returns-in_err-used
+returns-in_err-used g c =
+    let p = err_from_is_err_and c.from_residual.result c.from_residual.ensures.1 in
     let r = value_at g.C.WireCode.which c.args.frame.now in
-    let e = stops r c.args.count c.loop-i.i c.loop-i.place (omega arith) _ (sym c.in-err-used.ensures.value) in
+    let e = stops r c.args.count c.loop-i.i c.loop-i.place (omega arith) _ (sym c.in_err-used.ensures.value) in
     rw (p.1, p.2) (record { value = sym (sym c.loop-i.invariant.0 ∙ e); whole = tt })
 
 pub loop-i-preserved : goal.loop-i-preserved
 loop-i-preserved g c =
     let r = value_at g.C.WireCode.which c.args.frame.now in
-    let e = goes_on r c.args.count c.loop-i.i c.loop-i.place (omega arith) _ (sym c.in-ok-used.ensures.value) in
-    (e ∙ c.loop-i.invariant.0, omega (arith, c.in-ok-used.ensures.within))
+    let e = goes_on r c.args.count c.loop-i.i c.loop-i.place (omega arith) _ (sym c.in_ok-used.ensures.value) in
+    (e ∙ c.loop-i.invariant.0, omega (arith, c.in_ok-used.ensures.within))
 
 pub returns : goal.returns
 returns g c =

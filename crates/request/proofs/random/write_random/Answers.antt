@@ -9,7 +9,7 @@ returns g c =
     let s = c.args.memory.now in
     let m = g.M.ReadableMemory.means s in
     record {
-      value = ap (asked code) c.hold-write.ensures.value ∙ write_judged code m c.args.frame.now c.args.at;
-      whole = subst (λ r. IfOk r (Whole code)) (sym c.hold-write.ensures.value) (write_whole code m c.args.frame.now c.args.at);
-      stands = c.hold-write.ensures.stands;
+      value = ap (asked code) c.hold_write.ensures.value ∙ write_judged code m c.args.frame.now c.args.at;
+      whole = subst (λ r. IfOk r (Whole code)) (sym c.hold_write.ensures.value) (write_whole code m c.args.frame.now c.args.at);
+      stands = c.hold_write.ensures.stands;
     }

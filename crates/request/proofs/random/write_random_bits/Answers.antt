@@ -9,7 +9,7 @@ returns g c =
     let s = c.args.memory.now in
     let m = g.M.ReadableMemory.means s in
     record {
-      value = ap (asked code) c.hold-bits.ensures.value ∙ bits_judged code m c.args.frame.now c.args.at;
-      whole = subst (λ r. IfOk r (Whole code)) (sym c.hold-bits.ensures.value) (bits_whole code m c.args.frame.now c.args.at);
-      stands = c.hold-bits.ensures.stands;
+      value = ap (asked code) c.hold_bits.ensures.value ∙ bits_judged code m c.args.frame.now c.args.at;
+      whole = subst (λ r. IfOk r (Whole code)) (sym c.hold_bits.ensures.value) (bits_whole code m c.args.frame.now c.args.at);
+      stands = c.hold_bits.ensures.stands;
     }
