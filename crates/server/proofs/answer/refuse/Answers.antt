@@ -11,9 +11,9 @@ pub returns : goal.returns
 returns g c =
     let code = g.C.WireCode.which in
     let h = c.args.header in
-    let size = c.field-size.ensures in
-    let head = c.write-head-at.ensures in
-    let room : c.write-error-data-length.result ≤ length c.args.reply.now = search rules in
-    told code h (number_of c.args.fault.cause) _ c.write-head-at.result _ (Some c.args.fault) (series_bytes code (error_numbers h)) c.args.reply.now c.write-head-at.new.out _
-    (length_error code h ∙ sym size) head.end (c.write-error-data-length.ensures.end ∙ ap (λ n. c.write-head-at.result + n) (sym size))
-    (head.written ∙ ap (λ e. sets c.args.reply.now 0 (head_bytes code h c.field-size.result e)) c.number.ensures) c.write-error-data-length.ensures.written room
+    let size = c.field_size.ensures in
+    let head = c.write_head-at.ensures in
+    let room : c.write_error_data-length.result ≤ length c.args.reply.now = search rules in
+    told code h (number_of c.args.fault.cause) _ c.write_head-at.result _ (Some c.args.fault) (series_bytes code (error_numbers h)) c.args.reply.now c.write_head-at.new.out _
+    (length_error code h ∙ sym size) head.end (c.write_error_data-length.ensures.end ∙ ap (λ n. c.write_head-at.result + n) (sym size))
+    (head.written ∙ ap (λ e. sets c.args.reply.now 0 (head_bytes code h c.field_size.result e)) c.number.ensures) c.write_error_data-length.ensures.written room

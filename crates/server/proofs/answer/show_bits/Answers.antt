@@ -11,7 +11,7 @@ returns g c =
     let x = c.args in
     let V = (g.M.ReadableMemory.means x.memory.now).value in
     let vs = bits V x.device x.number x.points in
-    let head = c.write-head-at.ensures in
-    let room : c.write-head-at.result + c.bits-size-size.result ≤ length x.reply.now = search rules in
-    told code x.header 0 _ c.write-head-at.result _ None (bits_bytes code vs) x.reply.now c.write-head-at.new.out _
-    (length_bits_bytes code vs ∙ ap (bits_size code) (length_bits V x.device x.number x.points) ∙ sym c.bits-size-size.ensures) head.end refl head.written c.write-bits.ensures room
+    let head = c.write_head-at.ensures in
+    let room : c.write_head-at.result + c.bits_size-size.result ≤ length x.reply.now = search rules in
+    told code x.header 0 _ c.write_head-at.result _ None (bits_bytes code vs) x.reply.now c.write_head-at.new.out _
+    (length_bits_bytes code vs ∙ ap (bits_size code) (length_bits V x.device x.number x.points) ∙ sym c.bits_size-size.ensures) head.end refl head.written c.write_bits.ensures room

@@ -31,24 +31,24 @@ returns g c =
     let V = (g.M.ReadableMemory.means x.memory.now).value in
     let ws = c.words-words.result.now in
     let ds = c.doubles-doubles.result.now in
-    let head = c.write-head-at.ensures in
+    let head = c.write_head-at.ensures in
     let first = values_bytes code 2 (values_of Word V (accesses ws)) in
     let second = values_bytes code 4 (values_of Double V (accesses ds)) in
     let long : length first ≡ length ws * (2 * per_byte code) = length_values code 2 _ ∙ ap (λ n. n * (2 * per_byte code)) (length_values_of Word V ws) in
     let more : length second ≡ length ds * (4 * per_byte code) = length_values code 4 _ ∙ ap (λ n. n * (4 * per_byte code)) (length_values_of Double V ds) in
-    let size : length (first ++ second) ≡ length ws * c.field-size.result + length ds * c.field-size-2.result =
-    length-append first second ∙ (λ i. long i + more i) ∙ sym (λ i. length ws * c.field-size.ensures i + length ds * c.field-size-2.ensures i) in
-    let one = c.write-accesses-at-doubles.ensures in
-    let two = c.write-accesses-length.ensures in
-    let at = c.write-head-at.result in
-    let put : c.write-accesses-length.new.out ≡ sets c.write-head-at.new.out at (first ++ second) =
-    two.written ∙ (λ i. sets (one.written i) (one.end i) second) ∙ sets_sets c.write-head-at.new.out at (length ws * (2 * per_byte code)) first second long in
-    let ended : c.write-accesses-length.result ≡ at + (length ws * c.field-size.result + length ds * c.field-size-2.result) =
-    omega (arith, two.end, one.end, ap (λ k. length ws * k) c.field-size.ensures, ap (λ k. length ds * k) c.field-size-2.ensures) in
-    let room : c.write-accesses-length.result ≤ length x.reply.now =
+    let size : length (first ++ second) ≡ length ws * c.field_size.result + length ds * c.field_size-2.result =
+    length-append first second ∙ (λ i. long i + more i) ∙ sym (λ i. length ws * c.field_size.ensures i + length ds * c.field_size-2.ensures i) in
+    let one = c.write_accesses-at_doubles.ensures in
+    let two = c.write_accesses-length.ensures in
+    let at = c.write_head-at.result in
+    let put : c.write_accesses-length.new.out ≡ sets c.write_head-at.new.out at (first ++ second) =
+    two.written ∙ (λ i. sets (one.written i) (one.end i) second) ∙ sets_sets c.write_head-at.new.out at (length ws * (2 * per_byte code)) first second long in
+    let ended : c.write_accesses-length.result ≡ at + (length ws * c.field_size.result + length ds * c.field_size-2.result) =
+    omega (arith, two.end, one.end, ap (λ k. length ws * k) c.field_size.ensures, ap (λ k. length ds * k) c.field_size-2.ensures) in
+    let room : c.write_accesses-length.result ≤ length x.reply.now =
     omega (arith, two.end, one.end, short code x.header.form (length ws) (length ds) c.words-words.ensures.few c.doubles-doubles.ensures.few, head.end, c.requires) in
-    let t = told code x.header 0 _ at _ None (first ++ second) x.reply.now c.write-head-at.new.out _ size head.end ended head.written put room in
+    let t = told code x.header 0 _ at _ None (first ++ second) x.reply.now c.write_head-at.new.out _ size head.end ended head.written put room in
     let T : List (Device × ℕ) → List (Device × ℕ) → Type 0 =
     λ us vs. Tells x.header.size (reply_bytes code x.header 0 (values_bytes code 2 (values_of Word V us) ++ values_bytes code 4 (values_of Double V vs))) None
-    (record { taken = x.header.size; length = c.write-accesses-length.result; fault = None }) x.reply.now c.write-accesses-length.new.out in
+    (record { taken = x.header.size; length = c.write_accesses-length.result; fault = None }) x.reply.now c.write_accesses-length.new.out in
     subst (λ us. T us (doubles_in x.list.now)) c.words-words.ensures.value (subst (λ vs. T (accesses ws) vs) c.doubles-doubles.ensures.value t)

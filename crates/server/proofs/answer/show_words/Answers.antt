@@ -10,7 +10,7 @@ returns g c =
     let code = g.C.WireCode.which in
     let x = c.args in
     let vs = words (g.M.ReadableMemory.means x.memory.now).value x.device x.number x.points in
-    let head = c.write-head-at.ensures in
-    let room : c.write-head-at.result + x.points * c.field-size.result ≤ length x.reply.now = search rules in
-    told code x.header 0 _ c.write-head-at.result _ None (values_bytes code 2 vs) x.reply.now c.write-head-at.new.out _
-    (length_values code 2 vs ∙ (λ i. length_words (g.M.ReadableMemory.means x.memory.now).value x.device x.number x.points i * sym c.field-size.ensures i)) head.end refl head.written c.write-words.ensures room
+    let head = c.write_head-at.ensures in
+    let room : c.write_head-at.result + x.points * c.field_size.result ≤ length x.reply.now = search rules in
+    told code x.header 0 _ c.write_head-at.result _ None (values_bytes code 2 vs) x.reply.now c.write_head-at.new.out _
+    (length_values code 2 vs ∙ (λ i. length_words (g.M.ReadableMemory.means x.memory.now).value x.device x.number x.points i * sym c.field_size.ensures i)) head.end refl head.written c.write_words.ensures room

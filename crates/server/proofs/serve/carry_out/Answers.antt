@@ -8,8 +8,8 @@ use Rattle.server.proofs.Telling.{came_wrote}
 use Rattle.server.proofs.Taken.{bits_written, words_written, random_bits_written, random_written}
 use Rattle.server.proofs.serve.carry_out.Goals as goal
 
-pub put-random-requires : goal.put-random-requires
-put-random-requires g c =
+pub put_random-requires : goal.put_random-requires
+put_random-requires g c =
     let b = subst (λ (q : Request). IfOk (held (Ok q)) (Bounded (g.M.ReadableMemory.means c.args.memory.now))) c.in-WriteRandom.is c.requires.bounded in
     omega (arith, b.1)
 
@@ -19,9 +19,9 @@ returns-in-WriteBits g c =
     let m = g.M.ReadableMemory.means c.args.memory.now in
     let l = registered c.args.registration.now in
     let p = subst (λ (q : Request). Passed m (said code (Ok q))) c.in-WriteBits.is c.requires.passed in
-    let put = c.put-bits.ensures in
+    let put = c.put_bits.ensures in
     record {
-      came = subst (λ (q : Request). Came (answered code c.args.header m l (said code (Ok q))) c.accept.result c.args.reply.now c.accept.new.reply (g.M.ReadableMemory.means c.put-bits.new.memory) l)
+      came = subst (λ (q : Request). Came (answered code c.args.header m l (said code (Ok q))) c.accept.result c.args.reply.now c.accept.new.reply (g.M.ReadableMemory.means c.put_bits.new.memory) l)
           (sym c.in-WriteBits.is)
           (came_wrote code c.args.header m _ l _ _ _ _ put.means (bits_written m _ _ _ _ p) c.accept.ensures);
       keeps = put.keeps;
@@ -33,10 +33,10 @@ returns-in-WriteWords g c =
     let m = g.M.ReadableMemory.means c.args.memory.now in
     let l = registered c.args.registration.now in
     let p = subst (λ (q : Request). Passed m (said code (Ok q))) c.in-WriteWords.is c.requires.passed in
-    let put = c.put-words.ensures in
+    let put = c.put_words.ensures in
     let a = c.accept-in-WriteWords in
     record {
-      came = subst (λ (q : Request). Came (answered code c.args.header m l (said code (Ok q))) a.result c.args.reply.now a.new.reply (g.M.ReadableMemory.means c.put-words.new.memory) l)
+      came = subst (λ (q : Request). Came (answered code c.args.header m l (said code (Ok q))) a.result c.args.reply.now a.new.reply (g.M.ReadableMemory.means c.put_words.new.memory) l)
           (sym c.in-WriteWords.is)
           (came_wrote code c.args.header m _ l _ _ _ _ put.means (words_written m _ _ _ _ put.small p) a.ensures);
       keeps = put.keeps;
@@ -48,10 +48,10 @@ returns-in-WriteRandomBits g c =
     let m = g.M.ReadableMemory.means c.args.memory.now in
     let l = registered c.args.registration.now in
     let p = subst (λ (q : Request). Passed m (said code (Ok q))) c.in-WriteRandomBits.is c.requires.passed in
-    let put = c.put-random-bits.ensures in
+    let put = c.put_random_bits.ensures in
     let a = c.accept-in-WriteRandomBits in
     record {
-      came = subst (λ (q : Request). Came (answered code c.args.header m l (said code (Ok q))) a.result c.args.reply.now a.new.reply (g.M.ReadableMemory.means c.put-random-bits.new.memory) l)
+      came = subst (λ (q : Request). Came (answered code c.args.header m l (said code (Ok q))) a.result c.args.reply.now a.new.reply (g.M.ReadableMemory.means c.put_random_bits.new.memory) l)
           (sym c.in-WriteRandomBits.is)
           (came_wrote code c.args.header m _ l _ _ _ _ put.means (random_bits_written m _ _ p) a.ensures);
       keeps = put.keeps;
@@ -63,10 +63,10 @@ returns-in-WriteRandom g c =
     let m = g.M.ReadableMemory.means c.args.memory.now in
     let l = registered c.args.registration.now in
     let p = subst (λ (q : Request). Passed m (said code (Ok q))) c.in-WriteRandom.is c.requires.passed in
-    let put = c.put-random.ensures in
+    let put = c.put_random.ensures in
     let a = c.accept-in-WriteRandom in
     record {
-      came = subst (λ (q : Request). Came (answered code c.args.header m l (said code (Ok q))) a.result c.args.reply.now a.new.reply (g.M.ReadableMemory.means c.put-random.new.memory) l)
+      came = subst (λ (q : Request). Came (answered code c.args.header m l (said code (Ok q))) a.result c.args.reply.now a.new.reply (g.M.ReadableMemory.means c.put_random.new.memory) l)
           (sym c.in-WriteRandom.is)
           (came_wrote code c.args.header m _ l _ _ _ _ put.means (random_written m _ _ _ put.words put.doubles p) a.ensures);
       keeps = put.keeps;

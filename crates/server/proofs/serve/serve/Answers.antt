@@ -9,8 +9,8 @@ use Rattle.server.proofs.serve.serve.Goals as goal
 front : (n : ℕ) (xs : List ℕ) → take (n - 0) xs ≡ take n xs
 front n xs = ap (λ k. take k xs) (omega arith)
 
-pub answer-frame-requires : goal.answer-frame-requires
-answer-frame-requires g c =
+pub answer_frame-requires : goal.answer_frame-requires
+answer_frame-requires g c =
     let w = c.in-Ok.ensures.within in
     (w.2, simp length-take (omega (arith, w.0, w.1)))
 
@@ -23,12 +23,12 @@ returns-in-Ok g c =
     let before = m x.memory.now in
     let l = registered x.registration.now in
     let flag = x.settings.now.write_flag in
-    let after = m c.answer-frame.new.memory in
-    let l' = registered c.answer-frame.new.registration in
-    let whole = subst (λ (ys : List ℕ). Came (answered code h before l (request_in code before flag h ys)) c.answer-frame.result x.reply.now c.answer-frame.new.reply after l')
-    (front h.size x.frame.now) c.answer-frame.ensures.came in
+    let after = m c.answer_frame.new.memory in
+    let l' = registered c.answer_frame.new.registration in
+    let whole = subst (λ (ys : List ℕ). Came (answered code h before l (request_in code before flag h ys)) c.answer_frame.result x.reply.now c.answer_frame.new.reply after l')
+    (front h.size x.frame.now) c.answer_frame.ensures.came in
     record {
-      came = subst (λ (q : Result Header Fault). Came (taken_up code before flag l x.frame.now q) c.answer-frame.result x.reply.now c.answer-frame.new.reply after l')
+      came = subst (λ (q : Result Header Fault). Came (taken_up code before flag l x.frame.now q) c.answer_frame.result x.reply.now c.answer_frame.new.reply after l')
           c.in-Ok.ensures.value whole;
-      keeps = c.answer-frame.ensures.keeps;
+      keeps = c.answer_frame.ensures.keeps;
     }

@@ -9,8 +9,8 @@ use Rattle.server.specs.Registered.{accesses}
 use Rattle.server.proofs.Shows.{accesses_turn, left_turn}
 use Rattle.server.proofs.showing.write_accesses.Goals as goal
 
-pub write-number-place-requires : goal.write-number-place-requires
-write-number-place-requires g c =
+pub write_number-place-requires : goal.write_number-place-requires
+write_number-place-requires g c =
     let x = c.args in
     let i = c.loop-access.access-index in
     let code = g.C.WireCode.which in
@@ -19,14 +19,14 @@ write-number-place-requires g c =
     let n = c.bytes.ensures.value in
     (c.bytes.ensures.few, omega (arith, left_turn code x.width V x.entries.now i (omega arith) k, c.loop-access.invariant.1, ap (λ b. b * per_byte code) n))
 
-pub overflow-add-place : goal.overflow-add-place
-overflow-add-place g c =
+pub overflow_add-place : goal.overflow_add-place
+overflow_add-place g c =
     let x = c.args in
     let i = c.loop-access.access-index in
     let code = g.C.WireCode.which in
     let k = bytes_of x.width * per_byte code in
     let V = (g.M.ReadableMemory.means x.memory.now).value in
-    omega (arith, left_turn code x.width V x.entries.now i (omega arith) k, c.loop-access.invariant.1, c.write-number-place.ensures.used, ap (λ b. b * per_byte code) c.bytes.ensures.value)
+    omega (arith, left_turn code x.width V x.entries.now i (omega arith) k, c.loop-access.invariant.1, c.write_number-place.ensures.used, ap (λ b. b * per_byte code) c.bytes.ensures.value)
 
 pub loop-access-preserved : goal.loop-access-preserved
 loop-access-preserved g c =
@@ -35,9 +35,9 @@ loop-access-preserved g c =
     let code = g.C.WireCode.which in
     let V = (g.M.ReadableMemory.means x.memory.now).value in
     let k = bytes_of x.width * per_byte code in
-    let post = c.write-number-place.ensures in
+    let post = c.write_number-place.ensures in
     let n = c.bytes.ensures.value in (
-      rw (post.used, post.written) (accesses_turn code x.width V x.entries.now l.access-index (omega arith) l.out l.place _ _ c.access-value-value.ensures n ∙ l.invariant.0),
+      rw (post.used, post.written) (accesses_turn code x.width V x.entries.now l.access-index (omega arith) l.out l.place _ _ c.access_value-value.ensures n ∙ l.invariant.0),
       omega (arith, left_turn code x.width V x.entries.now l.access-index (omega arith) k, l.invariant.1, post.used, ap (λ b. b * per_byte code) n),
     )
 

@@ -18,10 +18,10 @@ loop-i-preserved g c =
     let l = c.loop-i in
     let m = g.M.ReadableMemory.means in
     let code = g.C.WireCode.which in
-    let put = c.put-point.ensures.means ∙ ap (λ v. tried (m l.memory) (as_point x.device (x.number + l.i) v)) c.bit-at.ensures.value in (
-      tried_more (m l.memory) (m c.put-point.new.memory) (as_point x.device (x.number + l.i) (bit_in code x.bytes.now l.i)) _ put
+    let put = c.put_point.ensures.means ∙ ap (λ v. tried (m l.memory) (as_point x.device (x.number + l.i) v)) c.bit_at.ensures.value in (
+      tried_more (m l.memory) (m c.put_point.new.memory) (as_point x.device (x.number + l.i) (bit_in code x.bytes.now l.i)) _ put
           (ap (tried (m l.memory)) (bits_more code x.bytes.now x.device x.number x.count l.i (omega arith)) ∙ l.invariant.0),
-      g.M.ReadableMemory.sound.kept_on _ _ _ l.invariant.1 c.put-point.ensures.keeps,
+      g.M.ReadableMemory.sound.kept_on _ _ _ l.invariant.1 c.put_point.ensures.keeps,
     )
 
 pub returns : goal.returns

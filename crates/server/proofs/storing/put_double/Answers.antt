@@ -12,8 +12,8 @@ returns g c =
     let low = as_word d x.number (x.value % 65536) in
     record {
       means =
-          c.put-word-2.ensures.means
-          ∙ (λ i. tried (c.put-word.ensures.means i) (as_word d (x.number + c.word-points.ensures.value i) (x.value / 65536)))
+          c.put_word-2.ensures.means
+          ∙ (λ i. tried (c.put_word.ensures.means i) (as_word d (x.number + c.word_points.ensures.value i) (x.value / 65536)))
           ∙ tried_on (m x.memory.now) low _;
-      keeps = g.M.ReadableMemory.sound.kept_on _ _ _ c.put-word.ensures.keeps c.put-word-2.ensures.keeps;
+      keeps = g.M.ReadableMemory.sound.kept_on _ _ _ c.put_word.ensures.keeps c.put_word-2.ensures.keeps;
     }

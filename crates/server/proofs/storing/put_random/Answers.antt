@@ -11,9 +11,9 @@ returns g c =
     let x = c.args in
     let m = g.M.ReadableMemory.means in
     let code = g.C.WireCode.which in
-    let one = c.put-settings.ensures in
-    let two = c.put-settings-2.ensures in
-    let part = ap (λ n. drop (x.words * n) x.list.now) c.field-size.ensures in
+    let one = c.put_settings.ensures in
+    let two = c.put_settings-2.ensures in
+    let part = ap (λ n. drop (x.words * n) x.list.now) c.field_size.ensures in
     record {
       means =
           two.means

@@ -37,9 +37,9 @@ loop-i-preserved g c =
     let read = sym (q.ensures.value ∙ ap (λ n. setting_in code n (drop l.place x.list.now)) c.size.ensures.value) in
     let got = in_goes_on r x.list.now x.count l.i l.place (omega arith) _ read in
     let rest = list_in r (x.count - (l.i + 1)) (drop (l.place + q.used) x.list.now) in (
-      tried_more (m l.memory) (m c.put-access.new.memory) (as_reach x.reach q.device q.number q.value) _ c.put-access.ensures.means
+      tried_more (m l.memory) (m c.put_access.new.memory) (as_reach x.reach q.device q.number q.value) _ c.put_access.ensures.means
           (ap (tried (m l.memory)) (each_more (as_reach x.reach) ((q.device, q.number), q.value) rest _ got) ∙ l.invariant.0),
-      g.M.ReadableMemory.sound.kept_on _ _ _ l.invariant.1 c.put-access.ensures.keeps,
+      g.M.ReadableMemory.sound.kept_on _ _ _ l.invariant.1 c.put_access.ensures.keeps,
       (λ e. l.invariant.2 (subst (Each (λ s. s.1 < 256 ^ size_of x.reach)) (sym got) (ap-small c.size.ensures.value q.ensures.within.2, e))),
     )
 

@@ -14,8 +14,8 @@ loop-i-preserved g c =
     let x = c.args in
     let l = c.loop-i in
     let m = g.M.ReadableMemory.means in (
-      tried_turn (m l.memory) (m c.put-point.new.memory) _ _ _ c.put-point.ensures.means (spread_turn x.device x.number l.i l.rest (omega arith)) ∙ l.invariant.0,
-      g.M.ReadableMemory.sound.kept_on _ _ _ l.invariant.1 c.put-point.ensures.keeps,
+      tried_turn (m l.memory) (m c.put_point.new.memory) _ _ _ c.put_point.ensures.means (spread_turn x.device x.number l.i l.rest (omega arith)) ∙ l.invariant.0,
+      g.M.ReadableMemory.sound.kept_on _ _ _ l.invariant.1 c.put_point.ensures.keeps,
     )
 
 pub returns : goal.returns

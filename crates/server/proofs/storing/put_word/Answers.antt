@@ -7,6 +7,6 @@ pub returns-in-Bit : goal.returns-in-Bit
 returns-in-Bit g c =
     let x = c.args in
     record {
-      means = c.put-sixteen.ensures.means ∙ ap (λ (k : Kind). tried (g.M.ReadableMemory.means x.memory.now) (word_write k x.device x.number x.value)) c.in-Bit.ensures;
-      keeps = c.put-sixteen.ensures.keeps;
+      means = c.put_sixteen.ensures.means ∙ ap (λ (k : Kind). tried (g.M.ReadableMemory.means x.memory.now) (word_write k x.device x.number x.value)) c.in-Bit.ensures;
+      keeps = c.put_sixteen.ensures.keeps;
     }

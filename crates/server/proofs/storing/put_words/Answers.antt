@@ -30,12 +30,12 @@ loop-i-preserved g c =
     let got = in_goes_on r x.bytes.now x.count l.i l.place (omega arith) _ (sym c.in-Ok.ensures.value) in
     let rest = list_in r (x.count - (l.i + 1)) (drop (l.place + c.in-Ok.used) x.bytes.now) in
     let w = c.in-Ok.ensures.within in (
-      ap (λ k. tried (m c.put-word.new.memory) (as_words x.device (l.next + k) rest)) c.word-points.ensures.value
-          ∙ tried_more (m l.memory) (m c.put-word.new.memory) (as_word x.device l.next c.in-Ok.value) _ c.put-word.ensures.means
+      ap (λ k. tried (m c.put_word.new.memory) (as_words x.device (l.next + k) rest)) c.word_points.ensures.value
+          ∙ tried_more (m l.memory) (m c.put_word.new.memory) (as_word x.device l.next c.in-Ok.value) _ c.put_word.ensures.means
           (ap (tried (m l.memory)) (words_more x.device l.next c.in-Ok.value rest _ got) ∙ l.invariant.0),
-      g.M.ReadableMemory.sound.kept_on _ _ _ l.invariant.1 c.put-word.ensures.keeps,
+      g.M.ReadableMemory.sound.kept_on _ _ _ l.invariant.1 c.put_word.ensures.keeps,
       omega (arith, w.0),
-      omega (arith, c.word-points.ensures.few, l.invariant.3),
+      omega (arith, c.word_points.ensures.few, l.invariant.3),
       (λ e. l.invariant.4 (subst (Each (λ v. v < 65536)) (sym got) (w.1, e))),
     )
 

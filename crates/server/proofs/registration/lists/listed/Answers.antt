@@ -18,7 +18,7 @@ returns g c =
     let ws = list_in r x.words x.list.now in
     let ds = list_in r x.doubles (drop (x.words * (4 * per_byte code)) x.list.now) in
     let all : accesses c.fill-2.new.entries ≡ sets (sets es 0 ws) x.words ds =
-    c.fill-2.ensures ∙ (λ i. sets (c.fill.ensures i) x.words (list_in r x.doubles (drop (x.words * c.field-size.ensures i) x.list.now))) in
+    c.fill-2.ensures ∙ (λ i. sets (c.fill.ensures i) x.words (list_in r x.doubles (drop (x.words * c.field_size.ensures i) x.list.now))) in
     let few : x.words + x.doubles ≤ length es = c.requires.few in
     let back : x.words + x.doubles - x.words ≡ x.doubles = omega arith in
     let one = ap (take x.words) all ∙ first_back es ws ds x.words x.doubles c.requires.whole.0 c.requires.whole.1 few in
