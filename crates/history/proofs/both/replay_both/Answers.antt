@@ -9,6 +9,6 @@ returns g c =
       flag = (l.flag, r.flag);
       left = l.kept.ran;
       right = r.kept.ran;
-      alike = λ ok ok' em ef eg p. both_ran _ _ _ _ _ _ _ _ _ _ c.args.left-calls.now c.args.right-calls.now _ _ _ _ l.kept.ran r.kept.ran (l.whole ok) (r.whole ok') em ef eg p;
+      alike = λ ok ok' em ef eg p. both_ran _ _ _ _ _ _ _ _ _ _ c.args.left_calls.now c.args.right_calls.now _ _ _ _ l.kept.ran r.kept.ran (l.whole ok) (r.whole ok') em ef eg p;
       whole = (l.whole, r.whole);
     }

@@ -5,7 +5,7 @@ use Rattle.history.proofs.replaying.replay.Goals as goal
 
 pub returns-in-Ok : goal.returns-in-Ok
 returns-in-Ok g c =
-    let r = c.run-calls-end.ensures in
+    let r = c.run_calls-end.ensures in
     let small = g.M.ReadableMemory.sound.small c.args.server.now.memory in
     record {
       keeps = r.keeps;
