@@ -3,19 +3,19 @@ use Rattle.std.proofs.lemmas.Result.{err_from_is_err_and}
 use Rattle.sheet.proofs.Tests.{cut_off, all_there, inside}
 use Rattle.sheet.proofs.record.test_record.Goals as goal
 
-pub returns-in-err-header : goal.returns-in-err-header
-returns-in-err-header c =
+pub returns-in_err-header-in-Some : goal.returns-in_err-header-in-Some
+returns-in_err-header-in-Some c =
     let x = c.args in
-    let p = err_from_is_err_and c.from-residual.result c.from-residual.ensures.1 in
-    let found = all_there x.code x.space x.sheet.now x.at c.in-Some.size _ c.in-Some.ensures.value c.in-err-header.ensures in
+    let p = err_from_is_err_and c.from_residual.result c.from_residual.ensures.1 in
+    let found = all_there x.code x.space x.sheet.now x.at c.in-Some.size _ c.in-Some.ensures.value c.in_err-header-in-Some.ensures in
     rw (p.1, p.2) (record { value = found; within = tt })
 
-pub returns-in-ok-header : goal.returns-in-ok-header
-returns-in-ok-header c =
+pub returns-in_ok-header-in-Some : goal.returns-in_ok-header-in-Some
+returns-in_ok-header-in-Some c =
     let x = c.args in
     let size = c.in-Some.size in
-    let h = c.in-ok-header in
-    let a = c.frame-alone in
+    let h = c.in_ok-header-in-Some in
+    let a = c.frame_alone in
     let found = all_there x.code x.space x.sheet.now x.at size (Ok h.header) c.in-Some.ensures.value h.ensures in
     record { value = a.ensures.value ∙ found; within = inside x.at size (length x.sheet.now) a.result a.ensures.same c.in-Some.ensures.within }
 

@@ -2,18 +2,18 @@ use Rattle.std.proofs.Common.{◌-◌, Some, None, ◌∙◌, arith}
 use Rattle.sheet.proofs.Turns.{over_here, more, refused, turn}
 use Rattle.sheet.proofs.run.run_records.Goals as goal
 
-pub overflow-add-count : goal.overflow-add-count
-overflow-add-count g c =
-    let lt = more c.args.sheet.now c.loop-reason.at c.args.cancel c.loop-reason.count c.in-default.ensures in
+pub overflow_add-count : goal.overflow_add-count
+overflow_add-count g c =
+    let lt = more c.args.sheet.now c.loop-reason.at c.args.cancel c.loop-reason.count c.in_default.ensures in
     omega arith
 
 pub loop-reason-preserved : goal.loop-reason-preserved
 loop-reason-preserved g c =
     let x = c.args in
     let l = c.loop-reason in
-    let t = c.take-frame-answer in
-    let lt = more x.sheet.now l.at x.cancel l.count c.in-default.ensures in (
-      (λ b. turn x.code x.sheet.now x.cancel l.at l.count c.in-Ok.size l.reply t.new.reply _ _ _ b _ _ t.result None c.in-default.ensures c.in-Ok.ensures.value c.requires.on t.ensures.came c.in-default-fault.is ∙ l.invariant.0 b),
+    let t = c.take_frame-answer in
+    let lt = more x.sheet.now l.at x.cancel l.count c.in_default.ensures in (
+      (λ b. turn x.code x.sheet.now x.cancel l.at l.count c.in-Ok.size l.reply t.new.reply _ _ _ b _ _ t.result None c.in_default.ensures c.in-Ok.ensures.value c.requires.on t.ensures.came c.in_default-fault.is ∙ l.invariant.0 b),
       g.M.ReadableMemory.sound.kept_on _ _ _ l.invariant.1 t.ensures.keeps,
       c.in-Ok.ensures.within,
       omega arith,
@@ -32,9 +32,9 @@ pub returns-in-Some-fault : goal.returns-in-Some-fault
 returns-in-Some-fault g c =
     let x = c.args in
     let l = c.loop-reason in
-    let t = c.take-frame-answer in
+    let t = c.take_frame-answer in
     record {
-      ends = λ b. turn x.code x.sheet.now x.cancel l.at l.count c.in-Ok.size l.reply t.new.reply _ _ _ b _ _ t.result (Some c.in-Some-fault.fault) c.in-default.ensures c.in-Ok.ensures.value c.requires.on t.ensures.came c.in-Some-fault.is ∙ l.invariant.0 b;
+      ends = λ b. turn x.code x.sheet.now x.cancel l.at l.count c.in-Ok.size l.reply t.new.reply _ _ _ b _ _ t.result (Some c.in-Some-fault.fault) c.in_default.ensures c.in-Ok.ensures.value c.requires.on t.ensures.came c.in-Some-fault.is ∙ l.invariant.0 b;
       keeps = g.M.ReadableMemory.sound.kept_on _ _ _ l.invariant.1 t.ensures.keeps;
     }
 
@@ -43,6 +43,6 @@ returns-in-Err g c =
     let x = c.args in
     let l = c.loop-reason in
     record {
-      ends = λ b. refused x.code x.sheet.now x.cancel l.at l.count l.reply _ c.in-Err.fault c.in-default.ensures c.in-Err.ensures.value ∙ l.invariant.0 b;
+      ends = λ b. refused x.code x.sheet.now x.cancel l.at l.count l.reply _ c.in-Err.fault c.in_default.ensures c.in-Err.ensures.value ∙ l.invariant.0 b;
       keeps = l.invariant.1;
     }

@@ -8,15 +8,15 @@ returns g c =
     let x = c.args in
     let m = g.M.ReadableMemory.means in
     let s = x.server.now in
-    let t = c.run-in-window in
+    let t = c.run_in_window in
     let e = t.ensures in
     let flag = s.settings.write_flag in
-    let w = whole x.code x.sheet.now x.cancel t.result x.reply.now t.new.reply (m s.memory) (m t.new.memory) flag _ (registered s.registration) (registered t.new.registration) c.if-not-has-version.ensures e.flag (e.ends (Some flag)) in
+    let w = whole x.code x.sheet.now x.cancel t.result x.reply.now t.new.reply (m s.memory) (m t.new.memory) flag _ (registered s.registration) (registered t.new.registration) c.if-not-has_version.ensures e.flag (e.ends (Some flag)) in
     record { ends = w.ends; space = w.space; flag = e.flag; keeps = e.keeps; history = w.history; onward = onward _ _ _ _ _ _ _ _ w.history.reached }
 
-pub returns-then-not-has-version : goal.returns-then-not-has-version
-returns-then-not-has-version g c =
+pub returns-then-not-has_version : goal.returns-then-not-has_version
+returns-then-not-has_version g c =
     let x = c.args in
     let s = x.server.now in
-    let w = no_version x.code x.sheet.now x.cancel x.reply.now (g.M.ReadableMemory.means s.memory) s.settings.write_flag (registered s.registration) c.if-not-has-version.ensures in
+    let w = no_version x.code x.sheet.now x.cancel x.reply.now (g.M.ReadableMemory.means s.memory) s.settings.write_flag (registered s.registration) c.if-not-has_version.ensures in
     record { ends = w.ends; space = w.space; flag = refl; keeps = g.M.ReadableMemory.sound.kept_same s.memory; history = w.history; onward = onward _ _ _ _ _ _ _ _ w.history.reached }
