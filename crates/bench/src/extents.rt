@@ -22,7 +22,7 @@ fn read_extent(part: &[u8]) -> Result<(Device, u32), Expected> {
 // Extents by symbol, divided by commas; a device that is not named has no points.
 fn read_extents(word: &[u8]) -> Result<[u32; 12], Expected> {
     let mut extents = [0; 12];
-    if word == b"-" {
+    if word == b"-".as_slice() {
         return Ok(extents);
     }
     let mut named = [false; 12];

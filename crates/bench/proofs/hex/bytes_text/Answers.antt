@@ -8,7 +8,7 @@ pub loop-byte-preserved : goal.loop-byte-preserved
 loop-byte-preserved c =
     let xs = c.args.bytes.now in
     let i = c.loop-byte.byte-index in
-    ap (λ t. t ++ bytes_text (drop (i + 1) xs)) c.in-ok-push-byte.ensures
+    ap (λ t. t ++ bytes_text (drop (i + 1) xs)) c.in_ok-push_byte.ensures
     ∙ turn_text xs (string_bytes c.loop-byte.text) i c.loop-byte-test.true
     ∙ c.loop-byte.invariant
 

@@ -6,4 +6,4 @@ use Rattle.bench.proofs.hex.push_byte.Goals as goal
 pub returns : goal.returns
 returns c =
     let b = c.args.byte in
-    added (string_bytes c.args.text.now) (hex_char (b / 16) ∷ []) (hex_char (b % 16) ∷ []) c.in-ok-push-digit.ensures c.in-ok-push-digit-2.ensures
+    added (string_bytes c.args.text.now) (hex_char (b / 16) ∷ []) (hex_char (b % 16) ∷ []) c.in_ok-push_digit.ensures c.in_ok-push_digit-2.ensures

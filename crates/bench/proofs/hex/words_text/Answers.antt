@@ -8,7 +8,7 @@ pub loop-word-preserved : goal.loop-word-preserved
 loop-word-preserved c =
     let xs = c.args.words.now in
     let i = c.loop-word.word-index in
-    ap (λ t. t ++ bytes_text (halves (drop (i + 1) xs))) c.in-ok-push-word.ensures
+    ap (λ t. t ++ bytes_text (halves (drop (i + 1) xs))) c.in_ok-push_word.ensures
     ∙ turn_words xs (string_bytes c.loop-word.text) i c.loop-word-test.true
     ∙ c.loop-word.invariant
 

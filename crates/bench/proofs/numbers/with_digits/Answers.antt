@@ -3,13 +3,13 @@ use Rattle.std.proofs.lemmas.List.{drop_more, drop_all}
 use Rattle.bench.specs.Decimals.{with_digits, also}
 use Rattle.bench.proofs.numbers.with_digits.Goals as goal
 
-pub returns-in-err-value : goal.returns-in-err-value
-returns-in-err-value c =
+pub returns-in_err-value : goal.returns-in_err-value
+returns-in_err-value c =
     let xs = c.args.word.now in
     let i = c.loop-character.character-index in
     let v = c.loop-character.value in
-    c.from-residual.ensures
-    ∙ ap (λ o. also o (λ n. with_digits n (drop (i + 1) xs))) c.in-err-value.ensures
+    c.from_residual.ensures
+    ∙ ap (λ o. also o (λ n. with_digits n (drop (i + 1) xs))) c.in_err-value.ensures
     ∙ ap (with_digits v) (sym (drop_more xs i 0 c.loop-character-test.true))
     ∙ c.loop-character.invariant
 
@@ -18,7 +18,7 @@ loop-character-preserved c =
     let xs = c.args.word.now in
     let i = c.loop-character.character-index in
     let v = c.loop-character.value in
-    ap (λ o. also o (λ n. with_digits n (drop (i + 1) xs))) c.in-ok-value.ensures
+    ap (λ o. also o (λ n. with_digits n (drop (i + 1) xs))) c.in_ok-value.ensures
     ∙ ap (with_digits v) (sym (drop_more xs i 0 c.loop-character-test.true))
     ∙ c.loop-character.invariant
 
