@@ -45,7 +45,7 @@ impl<M: WritableMemory + Storage> Bench<M> {
         }
     }
 
-    fn lock(&mut self, rt: &HostRuntime, range: Range) -> io::Result<()> {
+    pub fn lock(&mut self, rt: &HostRuntime, range: Range) -> io::Result<()> {
         let device = range.device;
         let first = Named(Point {
             device,
@@ -74,7 +74,7 @@ impl<M: WritableMemory + Storage> Bench<M> {
     }
 
     // A new server over the same memory: nothing registered, no window.
-    fn set_up(&mut self, rt: &HostRuntime, write_flag: bool) -> io::Result<()> {
+    pub fn set_up(&mut self, rt: &HostRuntime, write_flag: bool) -> io::Result<()> {
         self.server.settings = Settings { write_flag };
         self.server.registration = Registration::new();
         self.registered.forget();
@@ -97,7 +97,7 @@ impl<M: WritableMemory + Storage> Bench<M> {
         }
     }
 
-    fn look(&self, rt: &HostRuntime, device: Device, number: u32) -> io::Result<()> {
+    pub fn look(&self, rt: &HostRuntime, device: Device, number: u32) -> io::Result<()> {
         let point = Named(Point { device, number });
         match self.server.memory.read(device, number) {
             None => {
@@ -126,7 +126,7 @@ impl<M: WritableMemory + Storage> Bench<M> {
         self.window || self.server.settings.write_flag
     }
 
-    fn show(&self, rt: &HostRuntime) -> io::Result<()> {
+    pub fn show(&self, rt: &HostRuntime) -> io::Result<()> {
         let text = self.server.memory.below().digits(rt.alloc())?;
         let digits = or_dash(text.as_str());
         let flag = flag_name(self.flag());

@@ -14,7 +14,7 @@ use wire::{WireCode, number_at};
 
 // What one setting of a list reaches, and so how many bytes its value has: 1, 2 or 4.
 #[derive(Clone, Copy, PartialEq, Eq, Debug)]
-enum Reach {
+pub(crate) enum Reach {
     Point,
     Word,
     Double,
@@ -145,7 +145,7 @@ fn put_access<M: WritableMemory>(
 }
 
 // Carries out so many settings of a list from a place in it on, one after the other.
-fn put_settings<C: WireCode, M: WritableMemory>(
+pub(crate) fn put_settings<C: WireCode, M: WritableMemory>(
     memory: &mut M,
     list: &[u8],
     from: usize,
