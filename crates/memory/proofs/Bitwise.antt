@@ -1,5 +1,5 @@
 -- A word of sixteen bits with one of them set or cleared.
-use Rattle.std.proofs.Common.{◌≡◌, ℕ, zero, suc, ◌-◌, ◌/◌, ◌%◌, ◌^◌, ◌<◌, min, max, Bool, true, false, cond, ◌&&◌, T, eqb, ◌⊎◌, sym, refl, ap, ◌∙◌, subst, ⊎_elim, not-suc-le-zero, arith, eqb→eq}
+use Rattle.std.proofs.Common.{◌≡◌, ℕ, zero, suc, ◌-◌, ◌/◌, ◌%◌, ◌^◌, ◌<◌, min, max, Bool, true, false, cond, ◌&&◌, T, eqb, sym, refl, ap, ◌∙◌, subst, ⊎_elim, not-suc-le-zero, arith, eqb→eq}
 use lib.Bits.{bit_and, bit_or, or_step, and_step, or_shr, and_shr}
 use Rattle.std.proofs.lemmas.Nat.{mod-mul-add, mod_below}
 use Rattle.std.proofs.lemmas.Bool.{cases_eq, eq-eqb, ne_eqb, cond-true, cond-false}

@@ -7,7 +7,7 @@ use Rattle.frame.specs.declared.fault.Fault.{Fault}
 use Rattle.server.specs.declared.answer.Answer.{Answer}
 use Rattle.server.specs.Registered.{Listed}
 use Rattle.server.specs.Serves.{served, Came}
-use Rattle.server.specs.Histories.{frame, State, state}
+use Rattle.server.specs.Histories.{State, state}
 use Rattle.sheet.specs.declared.run.Reason.{Reason}
 use Rattle.sheet.specs.declared.run.Reason.TheVariants.{Finished, Cancelled, Stopped}
 use Rattle.sheet.specs.Records.{record_bytes, tested_record}

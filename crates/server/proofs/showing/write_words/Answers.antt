@@ -1,4 +1,4 @@
-use Rattle.std.proofs.Common.{◌-◌, ◌*◌, ◌∙◌, arith}
+use Rattle.std.proofs.Common.{◌*◌, ◌∙◌, arith}
 use Rattle.wire.specs.Numbers.{per_byte}
 use Rattle.server.proofs.Shows.{one_of, words_turn}
 use Rattle.server.proofs.showing.write_words.Goals as goal

@@ -1,4 +1,4 @@
-use Rattle.std.proofs.Common.{◌-◌, ◌*◌, ◌/◌, ◌%◌, ap, ◌∙◌, arith}
+use Rattle.std.proofs.Common.{◌*◌, ◌/◌, ◌%◌, ap, ◌∙◌, arith}
 use Rattle.wire.specs.Numbers.{base, hex_char}
 use Rattle.wire.proofs.Turns.{digit_put_turn, higher_turn}
 use Rattle.wire.proofs.ascii.write_digits.Goals as goal
