@@ -108,13 +108,13 @@ in_front before bytes n e fits = ap (take n) (drop_sets before 0 bytes (omega ar
 
 -- what a call came to is such an answer
 pub alike_answer : (code : Code) (xs : List ℕ) (m m' : Meaning) (flag : Bool) (g g' : Option Listed) (r : Answer) (before after : List ℕ)
-    → Came (served code xs (length before) m flag g) r before after m' g' → AlikeAnswer code xs m flag g r before after m' g'
-alike_answer code xs m m' flag g g' r before after came a f rest fits ok room is =
+    → Came (served code xs (length before) m flag g) r before after m' g' → r.length ≤ length before → AlikeAnswer code xs m flag g r before after m' g'
+alike_answer code xs m m' flag g g' r before after came within a f rest fits ok room is =
     let t = answers_alike code xs (length before) m flag g a f rest fits ok room is in
     record {
       whole = came.tells.takes ∙ t.whole;
       long = came.tells.long ∙ ap length t.reply;
-      reply = ap (take r.length) came.tells.reply ∙ in_front before (served code xs (length before) m flag g).bytes r.length came.tells.long came.tells.fits ∙ t.reply;
+      reply = ap (take r.length) came.tells.reply ∙ in_front before (served code xs (length before) m flag g).bytes r.length came.tells.long (subst (λ n. n ≤ length before) came.tells.long within) ∙ t.reply;
       told = ap cause_met came.tells.meets ∙ t.told;
       leaves = came.means ∙ t.leaves;
       lists = came.lists ∙ t.lists;

@@ -1,5 +1,5 @@
 -- A head and data that were written are the reply that an answer tells of.
-use Rattle.std.proofs.Common.{◌≡◌, ℕ, ◌+◌, ◌*◌, ◌≤◌, List, length, None, Option, sym, refl, ap, ◌∙◌, arith, length-append}
+use Rattle.std.proofs.Common.{◌≡◌, ℕ, ◌+◌, ◌*◌, List, length, None, Option, sym, refl, ap, ◌∙◌, length-append}
 use lib.Seq.{sets}
 use Rattle.wire.specs.declared.code.Code.{Code}
 use Rattle.wire.specs.Numbers.{per_byte}
@@ -17,15 +17,13 @@ use Rattle.server.proofs.Trying.{all_made}
 
 pub told : (code : Code) (h : Header) (end n at long : ℕ) (met : Option Fault) (bytes r₀ r₁ r₂ : List ℕ)
     → length bytes ≡ n → at ≡ head_size h.form * per_byte code → long ≡ at + n
-    → r₁ ≡ sets r₀ 0 (head_bytes code h n end) → r₂ ≡ sets r₁ at bytes → long ≤ length r₀
+    → r₁ ≡ sets r₀ 0 (head_bytes code h n end) → r₂ ≡ sets r₁ at bytes
     → Tells h.size (reply_bytes code h end bytes) met (record { taken = h.size; length = long; fault = met }) r₀ r₂
-told code h end n at long met bytes r₀ r₁ r₂ e a l p q room =
-    let whole : long ≡ length (reply_bytes code h end bytes) = l ∙ sym (length-append (head_bytes code h (length bytes) end) bytes ∙ (λ i. (length_head code h (length bytes) end ∙ sym a) i + e i)) in
+told code h end n at long met bytes r₀ r₁ r₂ e a l p q =
     record {
       takes = refl;
-      long = whole;
+      long = l ∙ sym (length-append (head_bytes code h (length bytes) end) bytes ∙ (λ i. (length_head code h (length bytes) end ∙ sym a) i + e i));
       meets = refl;
-      fits = omega arith;
       reply = q ∙ ap (λ r. sets r at bytes) p ∙ head_then_data code h end n at bytes r₀ e a;
     }
 

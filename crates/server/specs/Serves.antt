@@ -1,5 +1,5 @@
 -- What taking a frame answers and leaves.
-use Rattle.std.specs.Prelude.{◌≡◌, ℕ, ◌≤◌, Bool, List, [], ◌++◌, length, take, Some, None, Ok, Err, Option, Result}
+use Rattle.std.specs.Prelude.{◌≡◌, ℕ, Bool, List, [], ◌++◌, length, take, Some, None, Ok, Err, Option, Result}
 use Rattle.std.proofs.lemmas.List.Edits.{sets}
 use Rattle.memory.specs.Meaning.{Meaning}
 use Rattle.wire.specs.declared.code.Code.{Code}
@@ -83,12 +83,11 @@ taken_up code m flag g xs (Err f) = record { taken = 0; bytes = []; fault_met = 
 abbrev pub served : Code → List ℕ → ℕ → Meaning → Bool → Option Listed → Served
 served code xs space m flag g = taken_up code m flag g xs (tested code space xs)
 
--- an answer tells this, and the reply space, which has room for the reply, then holds it in front and what it held behind
+-- an answer tells this, and the reply space then holds the reply in front and what it held behind
 pub record Tells (taken : ℕ) (bytes : List ℕ) (met : Option Fault) (a : Answer) (before after : List ℕ) : Type 0 where
   pub takes : a.taken ≡ taken
   pub long : a.length ≡ length bytes
   pub meets : a.fault ≡ met
-  pub fits : length bytes ≤ length before
   pub reply : after ≡ sets before 0 bytes
 
 -- a call came to this

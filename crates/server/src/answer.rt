@@ -26,7 +26,8 @@ pub struct Answer {
 // The error reply.
 pub(crate) fn refuse<C: WireCode>(reply: &mut [u8], header: Header, fault: Fault) -> Answer
     requires { 4096 ≤ length reply.old }
-    ensures { Tells header.size (answer_bytes C.WireCode.which header (refused fault.cause)) (Some fault) result reply.old reply.new }
+    ensures tells { Tells header.size (answer_bytes C.WireCode.which header (refused fault.cause)) (Some fault) result reply.old reply.new }
+    ensures fits { result.length ≤ length reply.old }
 {
     let at = write_head::<C>(reply, header, C::field_size(9), fault.cause.number());
     let length = write_error_data::<C>(reply, at, header);
@@ -47,7 +48,8 @@ pub(crate) fn show_words<C: WireCode, M: ReadableMemory>(
     points: usize,
 ) -> Answer
     requires { (4096 ≤ length reply.old) × (points ≤ 960) }
-    ensures { Tells header.size (answer_bytes C.WireCode.which header (accepted (in_words (words (M.ReadableMemory.means memory.now).value device number points)))) None result reply.old reply.new }
+    ensures tells { Tells header.size (answer_bytes C.WireCode.which header (accepted (in_words (words (M.ReadableMemory.means memory.now).value device number points)))) None result reply.old reply.new }
+    ensures fits { result.length ≤ length reply.old }
 {
     let size = points * C::field_size(2);
     let at = write_head::<C>(reply, header, size, 0);
@@ -69,7 +71,8 @@ pub(crate) fn show_bits<C: WireCode, M: ReadableMemory>(
     points: usize,
 ) -> Answer
     requires { (4096 ≤ length reply.old) × ((points ≤ 3584) × (kind_of device ≡ Bit)) }
-    ensures { Tells header.size (answer_bytes C.WireCode.which header (accepted (in_bits (bits (M.ReadableMemory.means memory.now).value device number points)))) None result reply.old reply.new }
+    ensures tells { Tells header.size (answer_bytes C.WireCode.which header (accepted (in_bits (bits (M.ReadableMemory.means memory.now).value device number points)))) None result reply.old reply.new }
+    ensures fits { result.length ≤ length reply.old }
 {
     let size = C::bits_size(points);
     let at = write_head::<C>(reply, header, size, 0);
@@ -84,7 +87,8 @@ pub(crate) fn show_bits<C: WireCode, M: ReadableMemory>(
 // The reply to a request that was carried out and has no data to show.
 pub(crate) fn accept<C: WireCode>(reply: &mut [u8], header: Header) -> Answer
     requires { 4096 ≤ length reply.old }
-    ensures { Tells header.size (answer_bytes C.WireCode.which header (accepted no_data)) None result reply.old reply.new }
+    ensures tells { Tells header.size (answer_bytes C.WireCode.which header (accepted no_data)) None result reply.old reply.new }
+    ensures fits { result.length ≤ length reply.old }
 {
     let at = write_head::<C>(reply, header, 0, 0);
     Answer {
@@ -102,7 +106,8 @@ pub(crate) fn show_listed<C: WireCode, M: ReadableMemory>(
     list: &Registration,
 ) -> Answer
     requires { 4096 ≤ length reply.old }
-    ensures { Tells header.size (answer_bytes C.WireCode.which header (shown (M.ReadableMemory.means memory.now) (words_in list.now, doubles_in list.now))) None result reply.old reply.new }
+    ensures tells { Tells header.size (answer_bytes C.WireCode.which header (shown (M.ReadableMemory.means memory.now) (words_in list.now, doubles_in list.now))) None result reply.old reply.new }
+    ensures fits { result.length ≤ length reply.old }
 {
     let words = list.words();
     let doubles = list.doubles();
@@ -125,7 +130,8 @@ pub(crate) fn show_registered<C: WireCode, M: ReadableMemory>(
     registration: &Registration,
 ) -> Answer
     requires { 4096 ≤ length reply.old }
-    ensures { Tells header.size (answer_bytes C.WireCode.which header (monitored (M.ReadableMemory.means memory.now) (registered registration.now))) (late_fault header (monitored (M.ReadableMemory.means memory.now) (registered registration.now))) result reply.old reply.new }
+    ensures tells { Tells header.size (answer_bytes C.WireCode.which header (monitored (M.ReadableMemory.means memory.now) (registered registration.now))) (late_fault header (monitored (M.ReadableMemory.means memory.now) (registered registration.now))) result reply.old reply.new }
+    ensures fits { result.length ≤ length reply.old }
 {
     match registration.count() {
         Some(_) => show_listed::<C, M>(reply, header, memory, registration),

@@ -32,6 +32,7 @@ fn carry_out<C: WireCode, M: WritableMemory>(
     requires passed { Passed (M.ReadableMemory.means memory.old) (said C.WireCode.which (Ok request)) }
     ensures came { Came (answered C.WireCode.which header (M.ReadableMemory.means memory.old) (registered registration.old) (said C.WireCode.which (Ok request.entry))) result reply.old reply.new (M.ReadableMemory.means memory.new) (registered registration.new) }
     ensures keeps { M.ReadableMemory.keeps memory.old memory.new }
+    ensures fits { result.length ≤ length reply.old }
 {
     match request {
         Request::ReadBits {
@@ -114,6 +115,7 @@ fn answer_request<C: WireCode, M: WritableMemory>(
     requires passed { Passed (M.ReadableMemory.means memory.old) (said C.WireCode.which request) }
     ensures came { Came (answered C.WireCode.which header (M.ReadableMemory.means memory.old) (registered registration.old) (said C.WireCode.which request.entry)) result reply.old reply.new (M.ReadableMemory.means memory.new) (registered registration.new) }
     ensures keeps { M.ReadableMemory.keeps memory.old memory.new }
+    ensures fits { result.length ≤ length reply.old }
 {
     match request {
         Ok(request) => carry_out::<C, M>(reply, header, request, memory, registration),
@@ -133,6 +135,7 @@ fn answer_frame<C: WireCode, M: WritableMemory>(
     requires { (4096 ≤ length reply.old) × (header.data_at ≤ length frame.now) }
     ensures came { Came (answered C.WireCode.which header (M.ReadableMemory.means memory.old) (registered registration.old) (request_in C.WireCode.which (M.ReadableMemory.means memory.old) settings.now.write_flag header frame.now)) result reply.old reply.new (M.ReadableMemory.means memory.new) (registered registration.new) }
     ensures keeps { M.ReadableMemory.keeps memory.old memory.new }
+    ensures fits { result.length ≤ length reply.old }
 {
     let request = read_request::<C, M>(memory, frame, header, settings.write_flag);
     answer_request::<C, M>(reply, header, request, memory, registration)
@@ -148,6 +151,7 @@ fn serve<C: WireCode, M: WritableMemory>(
 ) -> Answer
     ensures came { Came (served C.WireCode.which frame.now (length reply.old) (M.ReadableMemory.means memory.old) settings.now.write_flag (registered registration.old)) result reply.old reply.new (M.ReadableMemory.means memory.new) (registered registration.new) }
     ensures keeps { M.ReadableMemory.keeps memory.old memory.new }
+    ensures fits { result.length ≤ length reply.old }
 {
     match read_frame::<C>(frame, reply.len()) {
         Ok(header) => {

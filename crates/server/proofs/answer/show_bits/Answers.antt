@@ -1,17 +1,16 @@
-use Rattle.std.proofs.Common.{◌+◌, ◌≤◌, length, None, sym, refl, ap, ◌∙◌, rules}
+use Rattle.std.proofs.Common.{None, sym, refl, ap, ◌∙◌}
 use Rattle.wire.specs.Points.{bits_bytes, bits_size}
 use Rattle.server.specs.Points.{bits}
 use Rattle.server.proofs.Shows.{length_bits_bytes, length_bits}
 use Rattle.server.proofs.Telling.{told}
 use Rattle.server.proofs.answer.show_bits.Goals as goal
 
-pub returns : goal.returns
-returns g c =
+pub returns-clause-tells : goal.returns-clause-tells
+returns-clause-tells g c =
     let code = g.C.WireCode.which in
     let x = c.args in
     let V = (g.M.ReadableMemory.means x.memory.now).value in
     let vs = bits V x.device x.number x.points in
     let head = c.write_head-at.ensures in
-    let room : c.write_head-at.result + c.bits_size-size.result ≤ length x.reply.now = search rules in
     told code x.header 0 _ c.write_head-at.result _ None (bits_bytes code vs) x.reply.now c.write_head-at.new.out _
-    (length_bits_bytes code vs ∙ ap (bits_size code) (length_bits V x.device x.number x.points) ∙ sym c.bits_size-size.ensures) head.end refl head.written c.write_bits.ensures room
+    (length_bits_bytes code vs ∙ ap (bits_size code) (length_bits V x.device x.number x.points) ∙ sym c.bits_size-size.ensures) head.end refl head.written c.write_bits.ensures

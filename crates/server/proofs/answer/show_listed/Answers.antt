@@ -24,8 +24,21 @@ short Binary FourE w d few few2 = omega arith
 short Ascii ThreeE w d few few2 = omega arith
 short Ascii FourE w d few few2 = omega arith
 
-pub returns : goal.returns
-returns g c =
+pub returns-clause-fits : goal.returns-clause-fits
+returns-clause-fits g c =
+    let ws = c.words-words.result.now in
+    let ds = c.doubles-doubles.result.now in
+    omega (
+      arith,
+      c.write_accesses-length.ensures.end,
+      c.write_accesses-at_doubles.ensures.end,
+      short g.C.WireCode.which c.args.header.form (length ws) (length ds) c.words-words.ensures.few c.doubles-doubles.ensures.few,
+      c.write_head-at.ensures.end,
+      c.requires,
+    )
+
+pub returns-clause-tells : goal.returns-clause-tells
+returns-clause-tells g c =
     let code = g.C.WireCode.which in
     let x = c.args in
     let V = (g.M.ReadableMemory.means x.memory.now).value in
@@ -45,9 +58,7 @@ returns g c =
     two.written ∙ (λ i. sets (one.written i) (one.end i) second) ∙ sets_sets c.write_head-at.new.out at (length ws * (2 * per_byte code)) first second long in
     let ended : c.write_accesses-length.result ≡ at + (length ws * c.field_size.result + length ds * c.field_size-2.result) =
     omega (arith, two.end, one.end, ap (λ k. length ws * k) c.field_size.ensures, ap (λ k. length ds * k) c.field_size-2.ensures) in
-    let room : c.write_accesses-length.result ≤ length x.reply.now =
-    omega (arith, two.end, one.end, short code x.header.form (length ws) (length ds) c.words-words.ensures.few c.doubles-doubles.ensures.few, head.end, c.requires) in
-    let t = told code x.header 0 _ at _ None (first ++ second) x.reply.now c.write_head-at.new.out _ size head.end ended head.written put room in
+    let t = told code x.header 0 _ at _ None (first ++ second) x.reply.now c.write_head-at.new.out _ size head.end ended head.written put in
     let T : List (Device × ℕ) → List (Device × ℕ) → Type 0 =
     λ us vs. Tells x.header.size (reply_bytes code x.header 0 (values_bytes code 2 (values_of Word V us) ++ values_bytes code 4 (values_of Double V vs))) None
     (record { taken = x.header.size; length = c.write_accesses-length.result; fault = None }) x.reply.now c.write_accesses-length.new.out in

@@ -1,16 +1,15 @@
-use Rattle.std.proofs.Common.{◌+◌, ◌*◌, ◌≤◌, length, None, sym, refl, ◌∙◌, rules}
+use Rattle.std.proofs.Common.{◌*◌, None, sym, refl, ◌∙◌}
 use Rattle.wire.specs.Series.{values_bytes}
 use Rattle.server.specs.Points.{words}
 use Rattle.server.proofs.Shows.{length_values, length_words}
 use Rattle.server.proofs.Telling.{told}
 use Rattle.server.proofs.answer.show_words.Goals as goal
 
-pub returns : goal.returns
-returns g c =
+pub returns-clause-tells : goal.returns-clause-tells
+returns-clause-tells g c =
     let code = g.C.WireCode.which in
     let x = c.args in
     let vs = words (g.M.ReadableMemory.means x.memory.now).value x.device x.number x.points in
     let head = c.write_head-at.ensures in
-    let room : c.write_head-at.result + x.points * c.field_size.result ≤ length x.reply.now = search rules in
     told code x.header 0 _ c.write_head-at.result _ None (values_bytes code 2 vs) x.reply.now c.write_head-at.new.out _
-    (length_values code 2 vs ∙ (λ i. length_words (g.M.ReadableMemory.means x.memory.now).value x.device x.number x.points i * sym c.field_size.ensures i)) head.end refl head.written c.write_words.ensures room
+    (length_values code 2 vs ∙ (λ i. length_words (g.M.ReadableMemory.means x.memory.now).value x.device x.number x.points i * sym c.field_size.ensures i)) head.end refl head.written c.write_words.ensures

@@ -23,8 +23,9 @@ returns-in-WriteBits g c =
     record {
       came = subst (λ (q : Request). Came (answered code c.args.header m l (said code (Ok q))) c.accept.result c.args.reply.now c.accept.new.reply (g.M.ReadableMemory.means c.put_bits.new.memory) l)
           (sym c.in-WriteBits.is)
-          (came_wrote code c.args.header m _ l _ _ _ _ put.means (bits_written m _ _ _ _ p) c.accept.ensures);
+          (came_wrote code c.args.header m _ l _ _ _ _ put.means (bits_written m _ _ _ _ p) c.accept.ensures.tells);
       keeps = put.keeps;
+      fits = c.accept.ensures.fits;
     }
 
 pub returns-in-WriteWords : goal.returns-in-WriteWords
@@ -38,8 +39,9 @@ returns-in-WriteWords g c =
     record {
       came = subst (λ (q : Request). Came (answered code c.args.header m l (said code (Ok q))) a.result c.args.reply.now a.new.reply (g.M.ReadableMemory.means c.put_words.new.memory) l)
           (sym c.in-WriteWords.is)
-          (came_wrote code c.args.header m _ l _ _ _ _ put.means (words_written m _ _ _ _ put.small p) a.ensures);
+          (came_wrote code c.args.header m _ l _ _ _ _ put.means (words_written m _ _ _ _ put.small p) a.ensures.tells);
       keeps = put.keeps;
+      fits = a.ensures.fits;
     }
 
 pub returns-in-WriteRandomBits : goal.returns-in-WriteRandomBits
@@ -53,8 +55,9 @@ returns-in-WriteRandomBits g c =
     record {
       came = subst (λ (q : Request). Came (answered code c.args.header m l (said code (Ok q))) a.result c.args.reply.now a.new.reply (g.M.ReadableMemory.means c.put_random_bits.new.memory) l)
           (sym c.in-WriteRandomBits.is)
-          (came_wrote code c.args.header m _ l _ _ _ _ put.means (random_bits_written m _ _ p) a.ensures);
+          (came_wrote code c.args.header m _ l _ _ _ _ put.means (random_bits_written m _ _ p) a.ensures.tells);
       keeps = put.keeps;
+      fits = a.ensures.fits;
     }
 
 pub returns-in-WriteRandom : goal.returns-in-WriteRandom
@@ -68,6 +71,7 @@ returns-in-WriteRandom g c =
     record {
       came = subst (λ (q : Request). Came (answered code c.args.header m l (said code (Ok q))) a.result c.args.reply.now a.new.reply (g.M.ReadableMemory.means c.put_random.new.memory) l)
           (sym c.in-WriteRandom.is)
-          (came_wrote code c.args.header m _ l _ _ _ _ put.means (random_written m _ _ _ put.words put.doubles p) a.ensures);
+          (came_wrote code c.args.header m _ l _ _ _ _ put.means (random_written m _ _ _ put.words put.doubles p) a.ensures.tells);
       keeps = put.keeps;
+      fits = a.ensures.fits;
     }

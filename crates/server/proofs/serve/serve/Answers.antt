@@ -31,4 +31,5 @@ returns-in-Ok g c =
       came = subst (λ (q : Result Header Fault). Came (taken_up code before flag l x.frame.now q) c.answer_frame.result x.reply.now c.answer_frame.new.reply after l')
           c.in-Ok.ensures.value whole;
       keeps = c.answer_frame.ensures.keeps;
+      fits = c.answer_frame.ensures.fits;
     }

@@ -23,7 +23,7 @@ returns-in-Binary g c =
       keeps = s.ensures.keeps;
       faults = faults_move_nothing Binary x.frame.now n m m' flag l l' s.result x.reply.now s.new.reply s.ensures.came;
       space = space_kept (served Binary x.frame.now n m flag l) s.result x.reply.now s.new.reply m' l' s.ensures.came;
-      alike = alike_answer Binary x.frame.now m m' flag l l' s.result x.reply.now s.new.reply s.ensures.came;
+      alike = alike_answer Binary x.frame.now m m' flag l l' s.result x.reply.now s.new.reply s.ensures.came s.ensures.fits;
       carries = λ b. frame_taken Binary x.frame.now x.reply.now s.new.reply m m' flag b l l' s.result s.ensures.came;
     })
 
@@ -43,6 +43,6 @@ returns-in-Ascii g c =
       keeps = s.ensures.keeps;
       faults = faults_move_nothing Ascii x.frame.now n m m' flag l l' s.result x.reply.now s.new.reply s.ensures.came;
       space = space_kept (served Ascii x.frame.now n m flag l) s.result x.reply.now s.new.reply m' l' s.ensures.came;
-      alike = alike_answer Ascii x.frame.now m m' flag l l' s.result x.reply.now s.new.reply s.ensures.came;
+      alike = alike_answer Ascii x.frame.now m m' flag l l' s.result x.reply.now s.new.reply s.ensures.came s.ensures.fits;
       carries = λ b. frame_taken Ascii x.frame.now x.reply.now s.new.reply m m' flag b l l' s.result s.ensures.came;
     })
