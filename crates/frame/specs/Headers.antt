@@ -1,5 +1,5 @@
 -- The tests of a frame in their order, and what its header says.
--- Sizes are in bytes of the binary form; `per-byte` turns them into wire bytes.
+-- Sizes are in bytes of the binary form; `per_byte` turns them into wire bytes.
 use Rattle.std.specs.Prelude.{ℕ, ◌+◌, ◌*◌, cond, ◌&&◌, List, length, drop, Ok, Err, Result, ◌==◌, nat_le, nat_lt}
 use Rattle.wire.specs.declared.code.Code.{Code}
 use Rattle.wire.specs.declared.code.FieldFault.{FieldFault}
