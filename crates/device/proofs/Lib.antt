@@ -1,3 +1,3 @@
 pub mod Places
-pub mod Walks
+pub mod Rows
 pub mod Found

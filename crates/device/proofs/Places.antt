@@ -1,9 +1,8 @@
 -- Each device stands at its place in the table.
-use Rattle.std.proofs.Common.{◌≡◌, ◌<◌, get_or, sym, refl, ap, ◌∙◌, lit<}
-use Rattle.device.specs.declared.table.Row.{Row}
+use Rattle.std.proofs.Common.{◌≡◌, ◌<◌, sym, refl, ap, ◌∙◌, lit<}
 use Rattle.device.specs.declared.types.Device.{Device}
 use Rattle.device.specs.declared.types.Device.TheVariants.{M, SM, L, X, Y, B, D, SD, ZR, W, TS, TN}
-use Rattle.device.specs.Devices.{place_of, device_at_place, rows, row_of}
+use Rattle.device.specs.Devices.{place_of, device_at_place}
 
 pub place_below : (d : Device) → place_of d < 12
 place_below M = lit< tt
@@ -32,20 +31,6 @@ at_place ZR = refl
 at_place W = refl
 at_place TS = refl
 at_place TN = refl
-
-pub row_at_place : (d : Device) (r : Row) → get_or rows (place_of d) r ≡ row_of d
-row_at_place M r = refl
-row_at_place SM r = refl
-row_at_place L r = refl
-row_at_place X r = refl
-row_at_place Y r = refl
-row_at_place B r = refl
-row_at_place D r = refl
-row_at_place SD r = refl
-row_at_place ZR r = refl
-row_at_place W r = refl
-row_at_place TS r = refl
-row_at_place TN r = refl
 
 -- no two devices share a place
 pub place_one : (d e : Device) → place_of d ≡ place_of e → d ≡ e

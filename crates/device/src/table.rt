@@ -146,32 +146,8 @@ impl Row {
     fn has_symbol(&self, first: u8, second: u8) -> bool
         ensures { result ≡ has_symbol first second self.now }
     {
-        self.symbol[0] == first && self.symbol[1] == second
+        self.symbol == [first, second]
     }
-}
-
-// The device of the first row that has the code.
-fn search_code(table: &[Row], code: u8) -> Option<Device>
-    ensures { result ≡ first_row (has_code code) table.now }
-{
-    for row in table {
-        if row.has_code(code) {
-            return Some(row.device);
-        }
-    }
-    None
-}
-
-// The device of the first row that has the symbol.
-fn search_symbol(table: &[Row], first: u8, second: u8) -> Option<Device>
-    ensures { result ≡ first_row (has_symbol first second) table.now }
-{
-    for row in table {
-        if row.has_symbol(first, second) {
-            return Some(row.device);
-        }
-    }
-    None
 }
 
 // The device with this code; none exactly when no device has it.
@@ -179,7 +155,10 @@ pub fn by_code(code: u8) -> Option<Device>
     ensures value { result ≡ device_by_code code }
     ensures found { MatchOption result ((d : Device) → code_of d ≢ code) (λ d. code_of d ≡ code) }
 {
-    search_code(&DEVICES, code)
+    DEVICES
+        .iter()
+        .find(|row| row.has_code(code))
+        .map(|row| row.device)
 }
 
 // The device with this symbol of two characters; none exactly when no device has it.
@@ -187,5 +166,8 @@ pub fn by_symbol(first: u8, second: u8) -> Option<Device>
     ensures value { result ≡ device_by_symbol first second }
     ensures found { MatchOption result ((d : Device) → symbol_of d ≢ first ∷ second ∷ []) (λ d. symbol_of d ≡ first ∷ second ∷ []) }
 {
-    search_symbol(&DEVICES, first, second)
+    DEVICES
+        .iter()
+        .find(|row| row.has_symbol(first, second))
+        .map(|row| row.device)
 }

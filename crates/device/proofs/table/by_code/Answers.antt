@@ -1,5 +1,18 @@
+use Rattle.std.proofs.Common.{◌≡◌, rules}
+use Rattle.std.specs.Option.{option_map}
+use Rattle.std.proofs.lemmas.Iterator.{YieldsList-from_slice}
+use Rattle.std.proofs.lemmas.Iterator.Search.{find_from_yields_List}
+use borrow.Author.Tests.{tests}
+use Rattle.device.specs.Devices.{rows}
+use Rattle.device.specs.Search.{has_code, device_by_code}
+use Rattle.device.proofs.Rows.{row_found}
 use Rattle.device.proofs.Found.{by_code_found}
 use Rattle.device.proofs.table.by_code.Goals as goal
 
 pub returns : goal.returns
-returns c = record { value = c.search_code.ensures; found = by_code_found c.args.code c.search_code.result c.search_code.ensures }
+returns c =
+    let test = has_code c.args.code in
+    let row = find_from_yields_List test _ _ c.find.result c.find.ensures.ran (YieldsList-from_slice rows c.iter.ensures.rest) (λ x b q k. search (rules, tests)) in
+    let device : c.map.result ≡ option_map (λ r. r.now.device) c.find.result = search rules in
+    let value : c.map.result ≡ device_by_code c.args.code = row_found test rows c.find.result c.map.result row device in
+    record { value = value; found = by_code_found c.args.code c.map.result value }
