@@ -1,3 +1,4 @@
+pub mod Pairs
 pub mod Starts
 pub mod Smallness
 pub mod Bitwise

@@ -1,5 +1,5 @@
 -- Where the devices' units begin, and that no two devices share a unit.
-use Rattle.std.proofs.Common.{◌≡◌, ℕ, zero, suc, ◌+◌, ◌<◌, ◌≤◌, List, get_or, refl, ap, ⊎_elim, add-one, arith}
+use Rattle.std.proofs.Common.{◌≡◌, ℕ, zero, suc, ◌+◌, ◌<◌, ◌≤◌, List, get_or, ap, ⊎_elim, add-one, arith}
 use Rattle.std.proofs.lemmas.Bool.{cases_eq}
 use Rattle.device.specs.declared.types.Device.{Device}
 use Rattle.device.specs.declared.types.Kind.{Kind}
@@ -9,10 +9,6 @@ use Rattle.device.proofs.Places.{place_below, at_place}
 use Rattle.memory.specs.declared.layout.Form.{Form}
 use Rattle.memory.specs.declared.layout.Form.TheVariants.{Packed, Image}
 use Rattle.memory.specs.Layout.{start, room, units_for, unit_of, width, index_of, extent_in}
-
-pub start_none : (f : Form) (es : List ℕ) → start f es 0 ≡ 0
-unfolding start
-start_none f es = refl
 
 pub start_more : (f : Form) (es : List ℕ) (p : ℕ) → start f es (p + 1) ≡ start f es p + units_for f (kind_of (device_at_place p)) (get_or es p 0)
 unfolding start

@@ -16,14 +16,6 @@ pub enum Form {
     Image,
 }
 
-// The device at a place of the table.
-fn device_at(place: usize) -> Device
-    requires { place < 12 }
-    ensures { result ≡ device_at_place place }
-{
-    DEVICES[place].device
-}
-
 // How many units so many points take.
 fn units_for(form: Form, kind: Kind, points: u32) -> usize
     ensures value { result ≡ units_for form kind points }
@@ -56,11 +48,11 @@ fn start_of(form: Form, extents: &[u32; 12], place: usize) -> usize
     ensures value { result ≡ start form extents.now place }
     ensures bound { result ≤ 2 ^ 33 * place }
 {
-    let mut sum = 0;
-    for p in 0..place {
-        sum += units_for(form, device_at(p).kind(), extents[p]);
-    }
-    sum
+    DEVICES[..place]
+        .iter()
+        .zip(extents)
+        .map(|(row, points)| units_for(form, row.kind, *points))
+        .sum()
 }
 
 // The first unit of a point.
@@ -78,23 +70,14 @@ pub fn extent_limit(_device: Device) -> u32
     65536
 }
 
-// Whether a device may have so many points.
-fn is_small(device: Device, points: u32) -> bool
-    ensures { result ≡ nat_le points (extent_limit device) }
-{
-    points <= extent_limit(device)
-}
-
 // Whether no extent passes its device's limit.
 fn all_small(extents: &[u32; 12]) -> bool
     ensures { result ≡ small_below extents.now 12 }
 {
-    for p in 0..12 {
-        if !is_small(device_at(p), extents[p]) {
-            return false;
-        }
-    }
-    true
+    DEVICES
+        .iter()
+        .zip(extents)
+        .all(|(row, points)| *points <= extent_limit(row.device))
 }
 
 // How many units a storage of these extents takes.
@@ -112,10 +95,7 @@ pub(crate) fn units_needed(form: Form, extents: &[u32; 12]) -> Result<usize, Ref
 pub(crate) fn is_fit(form: Form, extents: &[u32; 12], units: usize) -> bool
     ensures { result ≡ is_fit form extents.now units }
 {
-    match units_needed(form, extents) {
-        Ok(all) => all <= units,
-        Err(_) => false,
-    }
+    units_needed(form, extents).is_ok_and(|all| all <= units)
 }
 
 // The same as an answer.
@@ -129,24 +109,17 @@ pub(crate) fn making(form: Form, extents: &[u32; 12], units: usize) -> Result<()
     }
 }
 
-// The extents where they fit, and no points at all where they do not.
-fn made_of(form: Form, extents: [u32; 12], units: usize) -> [u32; 12]
-    ensures { result ≡ made_of form extents units }
+// The extents of what is made over so many units: no points at all where they do not fit.
+pub(crate) fn made_extents(form: Form, extents: [u32; 12], units: usize) -> [u32; 12]
+    ensures value { result ≡ made_of form extents units }
+    ensures small { Small result }
+    ensures fits { room form result ≤ units }
 {
     if is_fit(form, &extents, units) {
         extents
     } else {
         [0; 12]
     }
-}
-
-// The extents of what is made over so many units.
-pub(crate) fn made_extents(form: Form, extents: [u32; 12], units: usize) -> [u32; 12]
-    ensures value { result ≡ made_of form extents units }
-    ensures small { Small result }
-    ensures fits { room form result ≤ units }
-{
-    made_of(form, extents, units)
 }
 
 // What a write answers where every point is open: a point outside is refused before a value too wide.

@@ -5,15 +5,15 @@ ghost use Rattle.memory.specs.Refusals.{number_of};
 #[derive(Clone, Copy, PartialEq, Eq, Debug)]
 pub enum Refusal {
     // an extent is too large, or the space lent is too short
-    NoRoom,
+    NoRoom = 9,
     // one lock too many, or a last number before the first
-    NoLock,
+    NoLock = 10,
     // the point lies outside the extent
-    Outside,
+    Outside = 11,
     // the point is closed to writing
-    Closed,
+    Closed = 12,
     // the value is too wide for the kind of point
-    TooWide,
+    TooWide = 13,
 }
 
 impl Refusal {
@@ -21,12 +21,6 @@ impl Refusal {
     pub fn number(self) -> u8
         ensures { result ≡ number_of self }
     {
-        match self {
-            Refusal::NoRoom => 9,
-            Refusal::NoLock => 10,
-            Refusal::Outside => 11,
-            Refusal::Closed => 12,
-            Refusal::TooWide => 13,
-        }
+        self as u8
     }
 }

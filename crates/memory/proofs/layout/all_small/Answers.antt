@@ -1,16 +1,13 @@
-use Rattle.std.proofs.Common.{◌≡◌, true, false, sym, arith, below_more}
-use Rattle.memory.proofs.Smallness.{is_small, decides_small, one_large}
+use Rattle.std.proofs.Common.{◌∙◌, arith, rules}
+use Rattle.std.proofs.lemmas.Iterator.{YieldsList-from_slice, YieldsList-from_zip}
+use Rattle.std.proofs.lemmas.Iterator.Search.{all_from_yields_List}
+use borrow.Author.Tests.{tests}
+use Rattle.device.specs.Devices.{rows}
+use Rattle.memory.proofs.Pairs.{small_in, small_pairs}
 use Rattle.memory.proofs.layout.all_small.Goals as goal
 
-pub returns-then-not-is_small : goal.returns-then-not-is_small
-returns-then-not-is_small c =
-    let large : is_small c.args.extents.now c.loop-p.p ≡ false = cc in
-    sym (one_large c.args.extents.now 12 c.loop-p.p (omega arith) large)
-
 pub returns : goal.returns
-returns c = sym ((decides_small c.args.extents.now 12).1 (λ k h. c.loop-p.invariant k (omega arith)))
-
-pub loop-p-preserved : goal.loop-p-preserved
-loop-p-preserved c =
-    let small : is_small c.args.extents.now c.loop-p.p ≡ true = cc in
-    below_more _ _ c.loop-p.invariant small
+returns c =
+    let es = c.args.extents.now in
+    all_from_yields_List small_in c.all.new.self _ c.all.result c.all.ensures.ran (YieldsList-from_zip (YieldsList-from_slice rows cc) (YieldsList-from_slice es cc)) (λ x b q k. search (rules, tests))
+    ∙ small_pairs es (omega arith) 12 (omega arith)

@@ -1,10 +1,11 @@
-use Rattle.memory.proofs.Smallness.{made_small, made_fits}
+use Rattle.std.proofs.Common.{leb, sym, arith}
+use Rattle.std.proofs.lemmas.Bool.{and_parts}
+use Rattle.memory.specs.Layout.{small_below, room}
+use Rattle.memory.proofs.Smallness.{small_each, none_room}
 use Rattle.memory.proofs.layout.made_extents.Goals as goal
 
-pub returns : goal.returns
-returns c =
-    record {
-      value = c.made_of.ensures;
-      small = rw c.made_of.ensures (made_small c.args.form c.args.extents c.args.units);
-      fits = rw c.made_of.ensures (made_fits c.args.form c.args.extents c.args.units);
-    }
+pub returns-then-is_fit-clause-small : goal.returns-then-is_fit-clause-small
+returns-then-is_fit-clause-small c = small_each c.args.extents (and_parts (small_below c.args.extents 12) (leb (room c.args.form c.args.extents) c.args.units) (sym c.if-is_fit.ensures)).0
+
+pub returns-else-is_fit-clause-fits : goal.returns-else-is_fit-clause-fits
+returns-else-is_fit-clause-fits c = omega (arith, none_room c.args.form)
