@@ -5,4 +5,3 @@ pub mod Bitwise
 pub mod Units
 pub mod Points
 pub mod Covered
-pub mod Under

@@ -4,10 +4,10 @@ use Rattle.std.proofs.Common.{ap}
 use Rattle.device.specs.declared.types.Device.{Device}
 use Rattle.device.specs.declared.types.Device.TheVariants.{M}
 use Rattle.device.specs.Devices.{place_of}
-use Rattle.memory.specs.Meaning.{Meaning, write_answer}
+use Rattle.memory.specs.Meaning.{Meaning}
 use Rattle.memory.specs.declared.locked.Range.{Range}
 use Rattle.memory.specs.declared.refusal.Refusal.{Refusal}
-use Rattle.memory.specs.declared.refusal.Refusal.TheVariants.{NoLock, Closed}
+use Rattle.memory.specs.declared.refusal.Refusal.TheVariants.{NoLock}
 
 -- whether a point lies in a range, its first and its last number among them
 abbrev pub covers : Range → Device → ℕ → Bool
@@ -18,7 +18,7 @@ abbrev pub is_locked : List Range → Device → ℕ → Bool
 is_locked [] d n = false
 is_locked (r ∷ rs) d n = covers r d n || is_locked rs d n
 
--- the range of a place that holds none
+-- the range that fills a place where none is held
 abbrev pub no_range : Range
 no_range = record { device = M; first = 0; last = 0 }
 
@@ -41,7 +41,3 @@ under rs m = record { extent = m.extent; value = m.value; opened = λ d n. m.ope
 -- what is closed below is closed under locks
 pub shut_under : (rs : List Range) (m : Meaning) (d : Device) (n : ℕ) → m.opened d n ≡ false → (under rs m).opened d n ≡ false
 shut_under rs m d n e = ap (λ b. b && not (is_locked rs d n)) e
-
--- what a write through locks answers: a locked point inside is closed, and else the memory below answers
-abbrev pub answer_under : List Range → Meaning → Device → ℕ → ℕ → Result (Unit {0}) Refusal
-answer_under rs m d n v = cond (nat_lt n (m.extent d) && is_locked rs d n) (Err Closed) (write_answer m d n v)

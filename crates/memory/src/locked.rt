@@ -1,15 +1,15 @@
 // The calibration lock: a layer over a memory that closes ranges of its points.
-ghost use Rattle.std.specs.Prelude.{◌≡◌, ◌+◌, ◌<◌, min, true, false, ◌&&◌, [], length, take, nat_lt, slice_set, refl};
+ghost use Rattle.std.specs.Prelude.{◌≡◌, ◌&&◌, [], nat_lt, refl};
 ghost use Rattle.std.proofs.Common.{◌∙◌};
-ghost use Rattle.memory.specs.Meaning.{written};
-ghost use Rattle.memory.specs.Locks.{covers, is_locked, may_lock, lock_answer, locks_after, under, shut_under, answer_under};
+ghost use Rattle.memory.specs.Locks.{covers, is_locked, no_range, lock_answer, locks_after, under, shut_under};
 
 use crate::refusal::Refusal;
 use crate::traits::{ReadableMemory, WritableMemory};
+use arrayvec::ArrayVec;
 use device::Device;
 
 // The numbers of a device from the first to the last, both among them.
-#[derive(Clone, Copy)]
+#[derive(Clone, Copy, PartialEq, Eq, Debug)]
 pub struct Range {
     pub device: Device,
     pub first: u32,
@@ -20,61 +20,46 @@ impl Range {
     fn covers(self, device: Device, number: u32) -> bool
         ensures { result ≡ covers self device number }
     {
-        self.device.place() == device.place() && self.first <= number && number <= self.last
+        self.device == device && self.first <= number && number <= self.last
     }
 }
 
-// How many of the ranges are held.
-fn held(ranges: &[Range; 16], count: usize) -> usize
-    ensures value { result ≡ length (take count ranges.now) }
-    ensures least { result ≡ min count 16 }
-    ensures room { length ranges.now ≡ 16 }
-{
-    count.min(ranges.len())
-}
+// What fills a place that holds no lock yet.
+impl Default for Range {
+    ghost is_default = { λ r. r ≡ no_range };
 
-// Whether one more range can be locked beside those that are held.
-fn may_lock(held: usize, range: Range) -> bool
-    ensures { result ≡ may_lock held range }
-{
-    held < 16 && range.first <= range.last
-}
-
-// Whether a point lies in one of the first ranges.
-fn is_locked(ranges: &[Range; 16], count: usize, device: Device, number: u32) -> bool
-    ensures { result ≡ is_locked (take count ranges.now) device number }
-{
-    for i in 0..held(ranges, count) {
-        if ranges[i].covers(device, number) {
-            return true;
+    fn default() -> Range {
+        Range {
+            device: Device::M,
+            first: 0,
+            last: 0,
         }
     }
-    false
+}
+
+// Whether a point lies in one of the ranges.
+fn is_locked(ranges: &[Range], device: Device, number: u32) -> bool
+    ensures { result ≡ is_locked ranges.now device number }
+{
+    ranges.iter().any(|range| range.covers(device, number))
 }
 
 // Up to sixteen locks, which may overlap and reach past the extent.
 #[derive(Drop)]
 pub struct Locked<M> {
     below: M,
-    ranges: [Range; 16],
-    count: usize,
+    ranges: ArrayVec<Range, 16>,
 }
 
 impl<M: WritableMemory> Locked<M> {
     // The memory with no locks.
     pub fn new(below: M) -> Locked<M>
         ensures below { result.below ≡ below }
-        ensures locks { take result.count result.ranges ≡ [] }
+        ensures locks { result.ranges.items ≡ [] }
     {
-        let none = Range {
-            device: Device::M,
-            first: 0,
-            last: 0,
-        };
         Locked {
             below,
-            ranges: [none; 16],
-            count: 0,
+            ranges: ArrayVec::new(),
         }
     }
 
@@ -89,42 +74,29 @@ impl<M: WritableMemory> Locked<M> {
     pub fn into_below(self) -> M
         ensures { result ≡ self.below }
     {
-        let Locked { below, .. } = self;
-        below
+        self.below
     }
 
     // Locks one more range; refuses a seventeenth, and a last number before the first, and changes nothing then.
     pub fn lock(&mut self, range: Range) -> Result<(), Refusal>
-        ensures answer { result ≡ lock_answer (take self.old.count self.old.ranges) range }
-        ensures locks { take self.new.count self.new.ranges ≡ locks_after result (take self.old.count self.old.ranges) range }
+        ensures answer { result ≡ lock_answer self.old.ranges.items range }
+        ensures locks { self.new.ranges.items ≡ locks_after result self.old.ranges.items range }
         ensures below { self.new.below ≡ self.old.below }
     {
-        let held = held(&self.ranges, self.count);
-        if !may_lock(held, range) {
+        if self.ranges.is_full() || range.first > range.last {
             return Err(Refusal::NoLock);
         }
-        self.add(held, range);
+        self.ranges.push(range);
         Ok(())
-    }
-
-    // Holds the range after the first ones.
-    fn add(&mut self, held: usize, range: Range)
-        requires { held < 16 }
-        ensures ranges { self.new.ranges ≡ slice_set self.old.ranges held range }
-        ensures count { self.new.count ≡ held + 1 }
-        ensures below { self.new.below ≡ self.old.below }
-    {
-        self.ranges[held] = range;
-        self.count = held + 1;
     }
 }
 
 impl<M: ReadableMemory> ReadableMemory for Locked<M> {
-    ghost means = { λ s. under (take s.count s.ranges) (M.ReadableMemory.means s.below) };
+    ghost means = { λ s. under s.ranges.items (M.ReadableMemory.means s.below) };
 
-    ghost keeps = { λ s t. M.ReadableMemory.keeps s.below t.below × (t.ranges ≡ s.ranges) × (t.count ≡ s.count) };
+    ghost keeps = { λ s t. M.ReadableMemory.keeps s.below t.below × (t.ranges ≡ s.ranges) };
 
-    ghost sound = { record { small = λ s. M.ReadableMemory.sound.small s.below; narrow = λ s. M.ReadableMemory.sound.narrow s.below; outside = λ s. M.ReadableMemory.sound.outside s.below; shut = λ s d n h. shut_under (take s.count s.ranges) (M.ReadableMemory.means s.below) d n (M.ReadableMemory.sound.shut s.below d n h); kept_same = λ s. (M.ReadableMemory.sound.kept_same s.below, refl, refl); kept_on = λ s t u x y. (M.ReadableMemory.sound.kept_on s.below t.below u.below x.0 y.0, y.1 ∙ x.1, y.2 ∙ x.2) } };
+    ghost sound = { record { small = λ s. M.ReadableMemory.sound.small s.below; narrow = λ s. M.ReadableMemory.sound.narrow s.below; outside = λ s. M.ReadableMemory.sound.outside s.below; shut = λ s d n h. shut_under s.ranges.items (M.ReadableMemory.means s.below) d n (M.ReadableMemory.sound.shut s.below d n h); kept_same = λ s. (M.ReadableMemory.sound.kept_same s.below, refl); kept_on = λ s t u x y. (M.ReadableMemory.sound.kept_on s.below t.below u.below x.0 y.0, y.1 ∙ x.1) } };
 
     fn extent(&self, device: Device) -> u32 {
         self.below.extent(device)
@@ -138,32 +110,21 @@ impl<M: ReadableMemory> ReadableMemory for Locked<M> {
 impl<M: WritableMemory> Locked<M> {
     // Whether a point inside is locked.
     fn is_shut(&self, device: Device, number: u32) -> bool
-        ensures { result ≡ (nat_lt number ((M.ReadableMemory.means self.now.below).extent device) && is_locked (take self.now.count self.now.ranges) device number) }
+        ensures { result ≡ (nat_lt number ((M.ReadableMemory.means self.now.below).extent device) && is_locked self.now.ranges.items device number) }
     {
-        number < self.below.extent(device) && is_locked(&self.ranges, self.count, device, number)
-    }
-
-    // Writes the memory below, unless the point is locked.
-    fn pass(&mut self, device: Device, number: u32, value: u16) -> Result<(), Refusal>
-        ensures answer { result ≡ answer_under (take self.old.count self.old.ranges) (M.ReadableMemory.means self.old.below) device number value }
-        ensures meaning { M.ReadableMemory.means self.new.below ≡ written result (M.ReadableMemory.means self.old.below) device number value }
-        ensures keeps { M.ReadableMemory.keeps self.old.below self.new.below }
-        ensures ranges { self.new.ranges ≡ self.old.ranges }
-        ensures count { self.new.count ≡ self.old.count }
-    {
-        if self.is_shut(device, number) {
-            return Err(Refusal::Closed);
-        }
-        self.below.write(device, number, value)
+        number < self.below.extent(device) && is_locked(&self.ranges, device, number)
     }
 }
 
 impl<M: WritableMemory> WritableMemory for Locked<M> {
     fn is_open(&self, device: Device, number: u32) -> bool {
-        self.below.is_open(device, number) && !is_locked(&self.ranges, self.count, device, number)
+        self.below.is_open(device, number) && !is_locked(&self.ranges, device, number)
     }
 
     fn write(&mut self, device: Device, number: u32, value: u16) -> Result<(), Refusal> {
-        self.pass(device, number, value)
+        if self.is_shut(device, number) {
+            return Err(Refusal::Closed);
+        }
+        self.below.write(device, number, value)
     }
 }

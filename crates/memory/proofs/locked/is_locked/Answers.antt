@@ -1,13 +1,13 @@
-use Rattle.std.proofs.Common.{sym, arith, below_more}
-use Rattle.memory.proofs.Covered.{one_covers, none_covers}
+use Rattle.std.proofs.Common.{◌∙◌, rules}
+use Rattle.std.proofs.lemmas.Iterator.{YieldsList-from_slice}
+use Rattle.std.proofs.lemmas.Iterator.Search.{any_from_yields_List}
+use borrow.Author.Tests.{tests}
+use Rattle.memory.specs.Locks.{covers}
+use Rattle.memory.proofs.Covered.{any_covers}
 use Rattle.memory.proofs.locked.is_locked.Goals as goal
 
-pub returns-then-covers : goal.returns-then-covers
-returns-then-covers c =
-    sym (one_covers c.args.ranges.now c.args.count c.loop-i.i c.args.device c.args.number (omega arith) (omega arith) (sym c.if-covers.ensures))
-
 pub returns : goal.returns
-returns c = sym (none_covers c.args.ranges.now c.args.count c.args.device c.args.number (λ k h i. c.loop-i.invariant k (omega arith)))
-
-pub loop-i-preserved : goal.loop-i-preserved
-loop-i-preserved c = below_more _ _ c.loop-i.invariant (sym c.if-covers.ensures)
+returns c =
+    let rs = c.args.ranges.now in
+    any_from_yields_List (λ r. covers r c.args.device c.args.number) c.any.new.self _ c.any.result c.any.ensures.ran (YieldsList-from_slice rs cc) (λ x b q k. search (rules, tests))
+    ∙ any_covers rs c.args.device c.args.number
