@@ -1,5 +1,5 @@
 -- A number or a device field that was written reads as itself, in either code.
-use Rattle.std.proofs.Common.{◌≡◌, ℕ, zero, suc, ◌+◌, ◌*◌, ◌/◌, ◌%◌, ◌^◌, ◌<◌, ◌≤◌, Bool, true, false, cond, leb, List, [], ◌∷◌, ◌++◌, length, get_or, drop, set, Ok, Err, Result, sym, refl, ap, ◌∙◌, mod-lt, mod-eq_of_lt, mul_assoc, mul_comm, add-mul, pow-suc, add-one, arith, length-append, le-leb}
+use Rattle.std.proofs.Common.{◌≡◌, ℕ, zero, suc, ◌+◌, ◌*◌, ◌/◌, ◌%◌, ◌^◌, ◌<◌, ◌≤◌, Bool, true, false, cond, leb, List, [], ◌∷◌, ◌++◌, length, get_or, drop, Ok, Err, Result, refl, ap, ◌∙◌, mod-lt, mod-eq_of_lt, mul_assoc, mul_comm, add-mul, pow-suc, arith, length-append, le-leb}
 use native.Mathlib.Nat.{pow-zero, mod-add-div}
 use lib.Seq.{sets}
 use Rattle.device.specs.declared.types.Device.{Device}
@@ -41,7 +41,7 @@ value_back : (code : Code) (size v : ℕ) (rest : List ℕ) → v < 256 ^ size �
 value_back Binary size v rest h = ap Ok (low_back size v rest h)
 value_back Ascii size v rest h = digits_whole Hexadecimal (size * 2) 0 v rest (rw (two_a_byte size) h)
 
-length_low : (n v : ℕ) → length (low_bytes n v) ≡ n
+pub length_low : (n v : ℕ) → length (low_bytes n v) ≡ n
 length_low zero v = refl
 length_low (suc n) v = ap suc (length_low n (v / 256))
 
@@ -77,13 +77,6 @@ symbol_pair TN = refl
 
 pub length_symbol : (d : Device) → length (symbol_of d) ≡ 2
 length_symbol d = ap length (symbol_pair d)
-
--- the two characters of a symbol stored one by one
-pub symbol_stored : (d : Device) (out : List ℕ) (at : ℕ) → set (set out at (get_or (symbol_of d) 0 0)) (at + 1) (get_or (symbol_of d) 1 0) ≡ sets out at (symbol_of d)
-symbol_stored d out at =
-    let a = get_or (symbol_of d) 0 0 in
-    let b = get_or (symbol_of d) 1 0 in
-    ap (λ k. set (set out at a) k b) (add-one at) ∙ sym (ap (sets out at) (symbol_pair d))
 
 -- an ASCII device field, character by character
 symbol_first : (d : Device) (xs : List ℕ) → symbol_of d ++ xs ≡ get_or (symbol_of d) 0 0 ∷ get_or (symbol_of d) 1 0 ∷ xs

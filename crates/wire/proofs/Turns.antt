@@ -1,8 +1,8 @@
 -- One turn of a reader's or a writer's loop.
-use Rattle.std.proofs.Common.{◌≡◌, ℕ, suc, ◌+◌, ◌-◌, ◌*◌, ◌/◌, ◌%◌, ◌^◌, ◌<◌, ◌≤◌, List, length, get_or, drop, set, Ok, Err, sym, ap, ◌∙◌, pow-suc, add-one, arith, le-leb}
+use Rattle.std.proofs.Common.{◌≡◌, ℕ, suc, ◌+◌, ◌-◌, ◌*◌, ◌/◌, ◌%◌, ◌^◌, ◌<◌, ◌≤◌, List, length, get_or, take, drop, reverse, set, Ok, Err, refl, sym, ap, ◌∙◌, pow-suc, add-one, arith, le-leb}
 use native.Mathlib.Nat.{div-div-eq-div-mul}
 use lib.Seq.{sets}
-use Rattle.std.proofs.lemmas.List.{drop_more}
+use Rattle.std.proofs.lemmas.List.{drop_more, length-reverse, length-take-le, get_or-reverse, get_or-take, get_or_default}
 use Rattle.device.specs.declared.types.Device.{Device}
 use Rattle.device.specs.declared.types.Notation.{Notation}
 use Rattle.wire.specs.declared.code.Code.{Code}
@@ -14,24 +14,31 @@ use Rattle.wire.proofs.Places.{set_sets}
 low_step : (bytes : List ℕ) (p n m : ℕ) → m ≡ n + 1 → p < length bytes → low_first m (drop p bytes) ≡ get_or bytes p 0 + 256 * low_first n (drop (p + 1) bytes)
 low_step bytes p n m e h = rw (e, add-one n, drop_more bytes p 0 h)
 
--- the byte below joins the number of the bytes above it
-pub low_turn : (bytes : List ℕ) (i size v : ℕ) → 0 < i → i ≤ size → size ≤ length bytes → v ≡ low_first (size - i) (drop i bytes)
-    → v * 256 + get_or bytes (i - 1) 0 ≡ low_first (size - (i - 1)) (drop (i - 1) bytes)
-low_turn bytes i size v pos below fits e =
-    let s = low_step bytes (i - 1) (size - i) (size - (i - 1)) (omega arith) (omega arith) in
-    let next : i - 1 + 1 ≡ i = omega arith in
-    let t = rw (next, ← e) at s in
+-- the byte below joins the number of the n bytes above it
+pub low_turn : (bytes : List ℕ) (n size v x : ℕ) → n < size → size ≤ length bytes → x ≡ get_or bytes (size - (n + 1)) 0 → v ≡ low_first n (drop (size - n) bytes)
+    → v * 256 + x ≡ low_first (n + 1) (drop (size - (n + 1)) bytes)
+low_turn bytes n size v x below fits here e =
+    let s = low_step bytes (size - (n + 1)) n (n + 1) refl (omega arith) in
+    let next : size - (n + 1) + 1 ≡ size - n = omega arith in
+    let t = rw (next, ← e, ← here) at s in
     omega (arith, t)
+
+-- what a walk from the back of the first bytes reads after n of them
+pub byte_back : (bytes : List ℕ) (size n x : ℕ) → size ≤ length bytes → n < length (reverse (take size bytes)) → x ≡ get_or (reverse (take size bytes)) n x
+    → (n < size) × (x ≡ get_or bytes (size - (n + 1)) 0)
+byte_back bytes size n x fits below e =
+    let front = take size bytes in
+    let long : length front ≡ size = length-take-le size bytes fits in
+    let short : n < size = omega (arith, length-reverse front, long) in
+    let at : length front - 1 - n ≡ size - (n + 1) = omega (arith, long) in
+    (short, e ∙ get_or-reverse front n x (omega (arith, long)) ∙ ap (λ i. get_or front i x) at ∙ get_or-take size bytes (size - (n + 1)) x (omega arith) ∙ get_or_default bytes (size - (n + 1)) x 0 (omega arith))
 
 low_put : (out : List ℕ) (p n m v : ℕ) → m ≡ n + 1 → sets out p (low_bytes m v) ≡ sets (set out p (v % 256)) (p + 1) (low_bytes n (v / 256))
 low_put out p n m v e = rw (e, add-one n, add-one p)
 
 -- the lowest byte is stored, and the higher ones go behind it
-pub low_put_turn : (out : List ℕ) (at i size v : ℕ) → i < size
-    → sets (set out (at + i) (v % 256)) (at + (i + 1)) (low_bytes (size - (i + 1)) (v / 256)) ≡ sets out (at + i) (low_bytes (size - i) v)
-low_put_turn out at i size v h =
-    let next : at + (i + 1) ≡ at + i + 1 = omega arith in
-    rw next (sym (low_put out (at + i) (size - (i + 1)) (size - i) v (omega arith)))
+pub low_put_turn : (out : List ℕ) (i size v : ℕ) → i < size → sets (set out i (v % 256)) (i + 1) (low_bytes (size - (i + 1)) (v / 256)) ≡ sets out i (low_bytes (size - i) v)
+low_put_turn out i size v h = sym (low_put out i (size - (i + 1)) (size - i) v (omega arith))
 
 module _ (t : Notation) where
   digits_step : (bytes : List ℕ) (p n m acc : ℕ) → m ≡ n + 1 → p < length bytes

@@ -1,5 +1,5 @@
 // The ASCII code: two hexadecimal digits for a byte, the highest first.
-ghost use Rattle.std.specs.Prelude.{◌≡◌, ◌+◌, ◌*◌, ◌^◌, ◌<◌, ◌≤◌, length, drop, IfOk, slice_index, slice_set};
+ghost use Rattle.std.specs.Prelude.{◌≡◌, ◌+◌, ◌*◌, ◌^◌, ◌<◌, ◌≤◌, length, drop, IfOk};
 ghost use Rattle.std.proofs.lemmas.List.Edits.{sets};
 ghost use Rattle.device.specs.Devices.{symbol_of, notation_of};
 ghost use Rattle.wire.specs.declared.code.Code.{Code};
@@ -7,7 +7,7 @@ ghost use Rattle.wire.specs.Numbers.{digits_run, digit_chars};
 ghost use Rattle.wire.specs.Fields.{device_named, device_number};
 
 use crate::code::{FieldFault, WireCode};
-use crate::digits::{digit, hex_char, higher_digits, low_digit, with_digit};
+use crate::digits::{base, digit, hex_char, higher_digits, low_digit, with_digit};
 use device::{Device, Notation, by_symbol};
 
 pub struct Ascii;
@@ -19,10 +19,11 @@ fn read_digits(notation: Notation, bytes: &[u8], at: usize, size: usize) -> Resu
     ensures below { IfOk result (λ v. v < 256 ^ size) }
 {
     let count = Ascii::field_size(size);
+    let base = base(notation);
     let mut value: u32 = 0;
-    for i in 0..count {
-        let digit = digit(notation, bytes[at + i], (at + i) as u8)?;
-        value = with_digit(notation, value, digit);
+    for (i, byte) in bytes[at..at + count].iter().enumerate() {
+        let digit = digit(notation, *byte, (at + i) as u8)?;
+        value = with_digit(base, value, digit);
     }
     Ok(value)
 }
@@ -33,10 +34,11 @@ fn write_digits(notation: Notation, out: &mut [u8], at: usize, size: usize, valu
     ensures { out.new ≡ sets out.old at (digit_chars notation (size * 2) value) }
 {
     let count = Ascii::field_size(size);
+    let base = base(notation);
     let mut rest = value;
     for i in (0..count).rev() {
-        out[at + i] = hex_char(low_digit(notation, rest));
-        rest = higher_digits(notation, rest);
+        out[at + i] = hex_char(low_digit(base, rest));
+        rest = higher_digits(base, rest);
     }
 }
 
@@ -45,10 +47,7 @@ fn read_symbol(bytes: &[u8]) -> Result<Device, FieldFault>
     requires { 2 ≤ length bytes.now }
     ensures { result ≡ device_named Code.Ascii bytes.now }
 {
-    match by_symbol(bytes[0], bytes[1]) {
-        Some(device) => Ok(device),
-        None => Err(FieldFault::Unknown),
-    }
+    by_symbol(bytes[0], bytes[1]).ok_or(FieldFault::Unknown)
 }
 
 // The number of a device's field that is all there.
@@ -63,11 +62,9 @@ fn read_device_number(bytes: &[u8], device: Device) -> Result<u32, FieldFault>
 // Writes the two characters of a device's symbol.
 fn write_symbol(out: &mut [u8], at: usize, device: Device)
     requires { at + 2 ≤ length out.old }
-    ensures { out.new ≡ slice_set (slice_set out.old at (slice_index (symbol_of device) 0)) (at + 1) (slice_index (symbol_of device) 1) }
+    ensures { out.new ≡ sets out.old at (symbol_of device) }
 {
-    let symbol = device.symbol();
-    out[at] = symbol[0];
-    out[at + 1] = symbol[1];
+    out[at..at + 2].copy_from_slice(&device.symbol());
 }
 
 // Writes the number of a device's field behind the symbol.

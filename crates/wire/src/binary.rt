@@ -7,31 +7,10 @@ ghost use Rattle.wire.specs.Numbers.{low_first, low_bytes};
 ghost use Rattle.wire.specs.Fields.{device_named};
 
 use crate::code::{FieldFault, WireCode};
+use crate::digits::{higher_digits, low_digit, with_digit};
 use device::{Device, by_code};
 
 pub struct Binary;
-
-// The number with one more byte below it.
-fn joined(value: u32, byte: u8) -> u32
-    requires { value < 2 ^ 24 }
-    ensures { result ≡ value * 256 + byte }
-{
-    value * 256 + byte as u32
-}
-
-// The number's lowest byte.
-fn low_byte(value: u32) -> u8
-    ensures { result ≡ value % 256 }
-{
-    (value % 256) as u8
-}
-
-// The number without its lowest byte.
-fn higher_bytes(value: u32) -> u32
-    ensures { result ≡ value / 256 }
-{
-    value / 256
-}
 
 // The number in the first `size` bytes.
 fn read_bytes(bytes: &[u8], size: usize) -> u32
@@ -40,8 +19,8 @@ fn read_bytes(bytes: &[u8], size: usize) -> u32
     ensures below { result < 256 ^ size }
 {
     let mut value: u32 = 0;
-    for i in (0..size).rev() {
-        value = joined(value, bytes[i]);
+    for byte in bytes[..size].iter().rev() {
+        value = with_digit(256, value, *byte);
     }
     value
 }
@@ -52,9 +31,9 @@ fn write_bytes(out: &mut [u8], at: usize, size: usize, value: u32)
     ensures { out.new ≡ sets out.old at (low_bytes size value) }
 {
     let mut rest = value;
-    for i in 0..size {
-        out[at + i] = low_byte(rest);
-        rest = higher_bytes(rest);
+    for byte in &mut out[at..at + size] {
+        *byte = low_digit(256, rest);
+        rest = higher_digits(256, rest);
     }
 }
 
@@ -63,10 +42,7 @@ fn read_code(bytes: &[u8]) -> Result<Device, FieldFault>
     requires { 4 ≤ length bytes.now }
     ensures { result ≡ device_named Code.Binary bytes.now }
 {
-    match by_code(bytes[3]) {
-        Some(device) => Ok(device),
-        None => Err(FieldFault::Unknown),
-    }
+    by_code(bytes[3]).ok_or(FieldFault::Unknown)
 }
 
 // Writes the code of a device behind the three bytes of its number.
@@ -131,15 +107,13 @@ impl WireCode for Binary {
     fn read_half(bytes: &[u8], index: usize) -> Result<u8, FieldFault> {
         let byte = bytes[index / 2];
         if index % 2 == 0 {
-            return Ok(byte / 16);
+            Ok(byte / 16)
+        } else {
+            Ok(byte % 16)
         }
-        Ok(byte % 16)
     }
 
     fn is_filled(bytes: &[u8], points: usize) -> bool {
-        if points % 2 == 0 {
-            return true;
-        }
-        bytes[points / 2] % 16 == 0
+        points % 2 == 0 || bytes[points / 2] % 16 == 0
     }
 }

@@ -1,5 +1,5 @@
 // Digits as characters: '0' to '9', and in hexadecimal 'A' to 'F' too.
-ghost use Rattle.std.specs.Prelude.{◌≡◌, ◌+◌, ◌*◌, ◌/◌, ◌%◌, ◌^◌, ◌<◌};
+ghost use Rattle.std.specs.Prelude.{◌≡◌, ◌+◌, ◌*◌, ◌/◌, ◌%◌, ◌^◌, ◌<◌, ◌≤◌};
 ghost use Rattle.wire.specs.Numbers.{base, digit_of, hex_value, hex_char};
 
 use crate::code::FieldFault;
@@ -20,10 +20,7 @@ pub fn digit(notation: Notation, byte: u8, place: u8) -> Result<u8, FieldFault>
 pub fn read_digit(byte: u8) -> Option<u8>
     ensures { result ≡ hex_value byte }
 {
-    match digit(Notation::Hexadecimal, byte, 0) {
-        Ok(digit) => Some(digit),
-        Err(_) => None,
-    }
+    digit(Notation::Hexadecimal, byte, 0).ok()
 }
 
 // The character of a digit.
@@ -38,34 +35,38 @@ pub fn hex_char(digit: u8) -> u8
     }
 }
 
-// The number with one more digit behind it.
-pub fn with_digit(notation: Notation, value: u32, digit: u8) -> u32
-    requires { value * base notation + digit < 2 ^ 32 }
-    ensures { result ≡ value * base notation + digit }
+// How many digits a notation has.
+pub fn base(notation: Notation) -> u32
+    ensures value { result ≡ base notation }
+    ensures bounds { (0 < result) × (result ≤ 16) }
 {
     match notation {
-        Notation::Decimal => value * 10 + digit as u32,
-        Notation::Hexadecimal => value * 16 + digit as u32,
+        Notation::Decimal => 10,
+        Notation::Hexadecimal => 16,
     }
+}
+
+// The number with one more digit behind it, in any base.
+pub fn with_digit(base: u32, value: u32, digit: u8) -> u32
+    requires { value * base + digit < 2 ^ 32 }
+    ensures { result ≡ value * base + digit }
+{
+    value * base + digit as u32
 }
 
 // The number's lowest digit.
-pub fn low_digit(notation: Notation, value: u32) -> u8
-    ensures value { result ≡ value % base notation }
-    ensures below { result < 16 }
+pub fn low_digit(base: u32, value: u32) -> u8
+    requires { (0 < base) × (base ≤ 256) }
+    ensures value { result ≡ value % base }
+    ensures below { result < base }
 {
-    match notation {
-        Notation::Decimal => (value % 10) as u8,
-        Notation::Hexadecimal => (value % 16) as u8,
-    }
+    (value % base) as u8
 }
 
 // The number without its lowest digit.
-pub fn higher_digits(notation: Notation, value: u32) -> u32
-    ensures { result ≡ value / base notation }
+pub fn higher_digits(base: u32, value: u32) -> u32
+    requires { 0 < base }
+    ensures { result ≡ value / base }
 {
-    match notation {
-        Notation::Decimal => value / 10,
-        Notation::Hexadecimal => value / 16,
-    }
+    value / base
 }

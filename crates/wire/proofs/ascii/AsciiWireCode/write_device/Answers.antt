@@ -5,7 +5,7 @@ use Rattle.wire.specs.declared.code.Code.TheVariants.{Ascii}
 use Rattle.wire.specs.Numbers.{digit_chars}
 use Rattle.wire.specs.Fields.{device_in, encode_device}
 use Rattle.wire.proofs.Places.{sets_sets}
-use Rattle.wire.proofs.RoundTrip.{length_symbol, symbol_stored, device_stored}
+use Rattle.wire.proofs.RoundTrip.{length_symbol, device_stored}
 use Rattle.wire.proofs.ascii.AsciiWireCode.write_device.Goals as goal
 
 pub returns : goal.returns
@@ -15,9 +15,8 @@ returns c =
     let d = c.args.device in
     let n = c.args.number in
     let ds = digit_chars (notation_of d) 6 n in
-    let symbol : c.write_symbol.new.out ≡ sets out at (symbol_of d) = c.write_symbol.ensures ∙ symbol_stored d out at in
     let written : c.write_device_number.new.out ≡ sets out at (encode_device Ascii d n) =
-    c.write_device_number.ensures ∙ ap (λ l. sets l (at + 2) ds) symbol ∙ sets_sets out at 2 (symbol_of d) ds (length_symbol d) in
+    c.write_device_number.ensures ∙ ap (λ l. sets l (at + 2) ds) c.write_symbol.ensures ∙ sets_sets out at 2 (symbol_of d) ds (length_symbol d) in
     record {
       used = c.field_size.ensures;
       written = written;
