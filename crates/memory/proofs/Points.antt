@@ -96,7 +96,7 @@ module _ (f : Form) (us es : List ℕ) (d : Device) (n v : ℕ) (fits : room f e
   pub wrote_answer : r ≡ write_answer (stored f us es) d n v
   wrote_answer = answer ∙ never_closed (ltb n (extent_in es d)) _ _ _
 
-  went : r ≡ Ok tt → (n < extent_in es d) × (v < value_limit (kind_of d))
+  pub went : r ≡ Ok tt → (n < extent_in es d) × (v < value_limit (kind_of d))
   went e = let p = passed (ltb n (extent_in es d)) (ltb v (value_limit (kind_of d))) (sym wrote_answer ∙ e) in (ltb-true _ _ p.0, ltb-true _ _ p.1)
 
   meaning_after : (q : Result (Unit {0}) Refusal) → r ≡ q → stored f (units_after f q us es d n v) es ≡ written q (stored f us es) d n v

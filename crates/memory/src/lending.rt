@@ -4,11 +4,25 @@ ghost use Rattle.memory.specs.Meaning.{write_answer};
 ghost use Rattle.memory.specs.Layout.{stored, units_after, made_of};
 ghost use Rattle.memory.specs.declared.layout.Form.TheVariants.{Packed, Image};
 
-use crate::image::ByteImage;
-use crate::packed::PackedTables;
 use crate::refusal::Refusal;
+use crate::storage::{Storage, Unit};
 use crate::traits::WritableMemory;
 use device::Device;
+
+// Gives one point of a storage over the units a value.
+fn set<U: Unit>(
+    units: &mut [U],
+    extents: [u32; 12],
+    device: Device,
+    number: u32,
+    value: u16,
+) -> Result<(), Refusal>
+    ensures answer { result ≡ write_answer (stored U.FORM (U.numbers units.old) (made_of U.FORM extents (length units.old))) device number value }
+    ensures units { U.numbers units.new ≡ units_after U.FORM result (U.numbers units.old) (made_of U.FORM extents (length units.old)) device number value }
+{
+    let mut storage = Storage::new(units, extents);
+    storage.write(device, number, value)
+}
 
 // Gives one point of packed tables over the words a value.
 pub fn set_packed(
@@ -21,8 +35,7 @@ pub fn set_packed(
     ensures answer { result ≡ write_answer (stored Packed words.old (made_of Packed extents (length words.old))) device number value }
     ensures words { words.new ≡ units_after Packed result words.old (made_of Packed extents (length words.old)) device number value }
 {
-    let mut tables = PackedTables::new(words, extents);
-    tables.write(device, number, value)
+    set(words, extents, device, number, value)
 }
 
 // Gives one point of an image over the bytes a value.
@@ -36,6 +49,5 @@ pub fn set_image(
     ensures answer { result ≡ write_answer (stored Image bytes.old (made_of Image extents (length bytes.old))) device number value }
     ensures bytes { bytes.new ≡ units_after Image result bytes.old (made_of Image extents (length bytes.old)) device number value }
 {
-    let mut image = ByteImage::new(bytes, extents);
-    image.write(device, number, value)
+    set(bytes, extents, device, number, value)
 }

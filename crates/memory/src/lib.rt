@@ -8,6 +8,7 @@ mod lent;
 mod locked;
 mod packed;
 mod refusal;
+mod storage;
 mod traits;
 
 pub use image::{ByteImage, bytes_needed, image_fits};
