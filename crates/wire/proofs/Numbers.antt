@@ -5,7 +5,9 @@ use lib.Arith.{mod-mul}
 use Rattle.std.proofs.lemmas.Bool.Decides.{nat_tests}
 use Rattle.device.specs.declared.types.Notation.{Notation}
 use Rattle.device.specs.declared.types.Notation.TheVariants.{Decimal, Hexadecimal}
-use Rattle.wire.specs.Numbers.{base, hex_char, hex_value, digit_of}
+use Rattle.wire.specs.declared.code.Code.{Code}
+use Rattle.wire.specs.declared.code.Code.TheVariants.{Binary, Ascii}
+use Rattle.wire.specs.Numbers.{per_byte, base, hex_char, hex_value, digit_of}
 
 pub base_pos : (t : Notation) → 0 < base t
 base_pos Decimal = lit< tt
@@ -58,3 +60,8 @@ pub high_digit : (t : Notation) (v n : ℕ) → v % base t ^ suc n ≡ (v / base
 high_digit t v n =
     let b = base t in
     rw (pow-suc b n, mul_comm (b ^ n) b) (mod-mul v (base_pos t) (one-le-pow n b (base_pos t)))
+
+-- a field of so few bytes has a size
+pub two_most : (code : Code) (n : ℕ) → n < 65536 → n * per_byte code < 2 ^ 64
+two_most Binary n h = omega arith
+two_most Ascii n h = omega arith

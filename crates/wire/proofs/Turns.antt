@@ -1,14 +1,11 @@
 -- One turn of a reader's or a writer's loop.
-use Rattle.std.proofs.Common.{◌≡◌, ℕ, suc, ◌+◌, ◌-◌, ◌*◌, ◌/◌, ◌%◌, ◌^◌, ◌<◌, ◌≤◌, List, length, get_or, take, drop, reverse, set, Ok, Err, refl, sym, ap, ◌∙◌, pow-suc, add-one, arith, le-leb}
+use Rattle.std.proofs.Common.{◌≡◌, ℕ, suc, ◌+◌, ◌-◌, ◌*◌, ◌/◌, ◌%◌, ◌^◌, ◌<◌, ◌≤◌, List, length, get_or, take, drop, reverse, set, Ok, Err, refl, sym, ap, ◌∙◌, pow-suc, add-one, arith}
 use native.Mathlib.Nat.{div-div-eq-div-mul}
 use lib.Seq.{sets}
 use Rattle.std.proofs.lemmas.List.{drop_more, length-reverse, length-take-le, get_or-reverse, get_or-take, get_or_default}
-use Rattle.device.specs.declared.types.Device.{Device}
 use Rattle.device.specs.declared.types.Notation.{Notation}
-use Rattle.wire.specs.declared.code.Code.{Code}
 use Rattle.wire.specs.declared.code.FieldFault.{FieldFault}
-use Rattle.wire.specs.Fields.{device_named, device_number, device_in}
-use Rattle.wire.specs.Numbers.{then, per_byte, low_first, low_bytes, base, digit_of, digits_run, hex_char, digit_chars}
+use Rattle.wire.specs.Numbers.{then, low_first, low_bytes, base, digit_of, digits_run, hex_char, digit_chars}
 use Rattle.wire.proofs.Places.{set_sets}
 
 low_step : (bytes : List ℕ) (p n m : ℕ) → m ≡ n + 1 → p < length bytes → low_first m (drop p bytes) ≡ get_or bytes p 0 + 256 * low_first n (drop (p + 1) bytes)
@@ -78,8 +75,3 @@ module _ (t : Notation) where
   higher_turn v i count pos below =
       let more : count - (i - 1) ≡ suc (count - i) = omega arith in
       rw (more, pow-suc (base t) (count - i)) (div-div-eq-div-mul v (base t ^ (count - i)) (base t))
-
--- a bad number is what comes of a device field whose device is known
-pub device_stop : (code : Code) (xs : List ℕ) (d : Device) (f : FieldFault) → 4 * per_byte code ≤ length xs → device_named code xs ≡ Ok d → device_number code d xs ≡ Err f
-    → device_in code xs ≡ Err f
-device_stop code xs d f long named bad = rw (le-leb (4 * per_byte code) (length xs) long, named, bad)

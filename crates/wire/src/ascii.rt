@@ -1,10 +1,9 @@
 // The ASCII code: two hexadecimal digits for a byte, the highest first.
-ghost use Rattle.std.specs.Prelude.{◌≡◌, ◌+◌, ◌*◌, ◌^◌, ◌<◌, ◌≤◌, length, drop, IfOk};
+ghost use Rattle.std.specs.Prelude.{◌≡◌, ◌+◌, ◌*◌, ◌^◌, ◌<◌, ◌≤◌, length, drop, IfOk, refl};
 ghost use Rattle.std.proofs.lemmas.List.Edits.{sets};
 ghost use Rattle.device.specs.Devices.{symbol_of, notation_of};
 ghost use Rattle.wire.specs.declared.code.Code.{Code};
 ghost use Rattle.wire.specs.Numbers.{digits_run, digit_chars};
-ghost use Rattle.wire.specs.Fields.{device_named, device_number};
 
 use crate::code::{FieldFault, WireCode};
 use crate::digits::{base, digit, hex_char, higher_digits, low_digit, with_digit};
@@ -36,27 +35,11 @@ fn write_digits(notation: Notation, out: &mut [u8], at: usize, size: usize, valu
     let count = Ascii::field_size(size);
     let base = base(notation);
     let mut rest = value;
+    // by index: what an `iter_mut` that runs backwards leaves has no proof, and a `reverse` behind would write each place twice
     for i in (0..count).rev() {
         out[at + i] = hex_char(low_digit(base, rest));
         rest = higher_digits(base, rest);
     }
-}
-
-// The device of a field that is all there, by its first two characters.
-fn read_symbol(bytes: &[u8]) -> Result<Device, FieldFault>
-    requires { 2 ≤ length bytes.now }
-    ensures { result ≡ device_named Code.Ascii bytes.now }
-{
-    by_symbol(bytes[0], bytes[1]).ok_or(FieldFault::Unknown)
-}
-
-// The number of a device's field that is all there.
-fn read_device_number(bytes: &[u8], device: Device) -> Result<u32, FieldFault>
-    requires { 8 ≤ length bytes.now }
-    ensures value { result ≡ device_number Code.Ascii device bytes.now }
-    ensures below { IfOk result (λ v. v < 2 ^ 24) }
-{
-    read_digits(device.notation(), bytes, 2, 3)
 }
 
 // Writes the two characters of a device's symbol.
@@ -78,40 +61,31 @@ fn write_device_number(out: &mut [u8], at: usize, device: Device, number: u32)
 impl WireCode for Ascii {
     const WIRE_BYTES: usize = 2;
 
+    ghost WIRE_BYTES = { 2 };
+
     ghost which = { Code.Ascii };
 
-    fn field_size(bytes: usize) -> usize {
-        bytes * Self::WIRE_BYTES
+    ghost each = { refl };
+
+    fn read_value(bytes: &[u8], size: usize) -> Result<u32, FieldFault> {
+        read_digits(Notation::Hexadecimal, bytes, 0, size)
     }
 
-    fn read_number(bytes: &[u8], size: usize) -> Result<(u32, usize), FieldFault> {
-        let used = Self::field_size(size);
-        if bytes.len() < used {
-            return Err(FieldFault::Missing);
-        }
-        let value = read_digits(Notation::Hexadecimal, bytes, 0, size)?;
-        Ok((value, used))
-    }
-
-    fn write_number(out: &mut [u8], at: usize, size: usize, value: u32) -> usize {
+    fn write_value(out: &mut [u8], at: usize, size: usize, value: u32) {
         write_digits(Notation::Hexadecimal, out, at, size, value);
-        Self::field_size(size)
     }
 
-    fn read_device(bytes: &[u8]) -> Result<(Device, u32, usize), FieldFault> {
-        let used = Self::field_size(4);
-        if bytes.len() < used {
-            return Err(FieldFault::Missing);
-        }
-        let device = read_symbol(bytes)?;
-        let number = read_device_number(bytes, device)?;
-        Ok((device, number, used))
+    fn read_name(bytes: &[u8]) -> Result<Device, FieldFault> {
+        by_symbol(bytes[0], bytes[1]).ok_or(FieldFault::Unknown)
     }
 
-    fn write_device(out: &mut [u8], at: usize, device: Device, number: u32) -> usize {
+    fn read_device_number(bytes: &[u8], device: Device) -> Result<u32, FieldFault> {
+        read_digits(device.notation(), bytes, 2, 3)
+    }
+
+    fn write_device_field(out: &mut [u8], at: usize, device: Device, number: u32) {
         write_symbol(out, at, device);
         write_device_number(out, at, device, number);
-        Self::field_size(4)
     }
 
     fn bits_size(points: usize) -> usize {

@@ -1,10 +1,9 @@
 // The binary code: the bytes of a number themselves, low byte first.
-ghost use Rattle.std.specs.Prelude.{◌≡◌, ◌+◌, ◌*◌, ◌/◌, ◌%◌, ◌^◌, ◌<◌, ◌≤◌, length, slice_set};
+ghost use Rattle.std.specs.Prelude.{◌≡◌, ◌+◌, ◌*◌, ◌/◌, ◌%◌, ◌^◌, ◌<◌, ◌≤◌, length, slice_set, refl};
 ghost use Rattle.std.proofs.lemmas.List.Edits.{sets};
 ghost use Rattle.wire.specs.declared.code.Code.{Code};
 ghost use Rattle.device.specs.Devices.{code_of};
 ghost use Rattle.wire.specs.Numbers.{low_first, low_bytes};
-ghost use Rattle.wire.specs.Fields.{device_named};
 
 use crate::code::{FieldFault, WireCode};
 use crate::digits::{higher_digits, low_digit, with_digit};
@@ -37,14 +36,6 @@ fn write_bytes(out: &mut [u8], at: usize, size: usize, value: u32)
     }
 }
 
-// The device of a field that is all there, by its fourth byte.
-fn read_code(bytes: &[u8]) -> Result<Device, FieldFault>
-    requires { 4 ≤ length bytes.now }
-    ensures { result ≡ device_named Code.Binary bytes.now }
-{
-    by_code(bytes[3]).ok_or(FieldFault::Unknown)
-}
-
 // Writes the code of a device behind the three bytes of its number.
 fn write_code(out: &mut [u8], at: usize, device: Device)
     requires { at + 4 ≤ length out.old }
@@ -56,38 +47,31 @@ fn write_code(out: &mut [u8], at: usize, device: Device)
 impl WireCode for Binary {
     const WIRE_BYTES: usize = 1;
 
+    ghost WIRE_BYTES = { 1 };
+
     ghost which = { Code.Binary };
 
-    fn field_size(bytes: usize) -> usize {
-        bytes * Self::WIRE_BYTES
+    ghost each = { refl };
+
+    fn read_value(bytes: &[u8], size: usize) -> Result<u32, FieldFault> {
+        Ok(read_bytes(bytes, size))
     }
 
-    fn read_number(bytes: &[u8], size: usize) -> Result<(u32, usize), FieldFault> {
-        let used = Self::field_size(size);
-        if bytes.len() < used {
-            return Err(FieldFault::Missing);
-        }
-        Ok((read_bytes(bytes, size), used))
-    }
-
-    fn write_number(out: &mut [u8], at: usize, size: usize, value: u32) -> usize {
+    fn write_value(out: &mut [u8], at: usize, size: usize, value: u32) {
         write_bytes(out, at, size, value);
-        Self::field_size(size)
     }
 
-    fn read_device(bytes: &[u8]) -> Result<(Device, u32, usize), FieldFault> {
-        let used = Self::field_size(4);
-        if bytes.len() < used {
-            return Err(FieldFault::Missing);
-        }
-        let device = read_code(bytes)?;
-        Ok((device, read_bytes(bytes, 3), used))
+    fn read_name(bytes: &[u8]) -> Result<Device, FieldFault> {
+        by_code(bytes[3]).ok_or(FieldFault::Unknown)
     }
 
-    fn write_device(out: &mut [u8], at: usize, device: Device, number: u32) -> usize {
+    fn read_device_number(bytes: &[u8], _device: Device) -> Result<u32, FieldFault> {
+        Ok(read_bytes(bytes, 3))
+    }
+
+    fn write_device_field(out: &mut [u8], at: usize, device: Device, number: u32) {
         write_bytes(out, at, 3, number);
         write_code(out, at, device);
-        Self::field_size(4)
     }
 
     fn bits_size(points: usize) -> usize {
