@@ -3,13 +3,7 @@ use Rattle.wire.specs.Numbers.{number_in}
 use Rattle.wire.proofs.RoundTrip.{number_stored}
 use Rattle.wire.proofs.code.WireCode.write_number.Goals as goal
 
-pub returns : goal.returns
-returns g c =
-    let code = g.Self.WireCode.which in
-    let written = c.write_value.ensures in
-    record {
-      used = c.field_size.ensures;
-      written = written;
-      back = λ below. ap (λ l. number_in code c.args.size (drop c.args.at l)) written
-          ∙ number_stored code c.args.size c.args.value c.args.out.now c.args.at (omega arith) below;
-    }
+pub returns-clause-back : goal.returns-clause-back
+returns-clause-back g c = λ below.
+    ap (λ l. number_in g.Self.WireCode.which c.args.size (drop c.args.at l)) c.write_value.ensures
+    ∙ number_stored g.Self.WireCode.which c.args.size c.args.value c.args.out.now c.args.at (omega arith) below
