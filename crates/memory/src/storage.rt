@@ -87,6 +87,7 @@ impl<'a, U: Unit> ReadableMemory for Storage<'a, U> {
     }
 
     fn read(&self, device: Device, number: u32) -> Option<u16> {
+        // no `then`: the proof of a closure in it does not learn that the point is inside
         if number >= self.extent(device) {
             return None;
         }
