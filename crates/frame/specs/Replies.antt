@@ -20,6 +20,11 @@ two v = record { size = 2; value = v }
 abbrev pub route_numbers : Route → List Number → List Number
 route_numbers r rest = one r.network ∷ one r.pc ∷ two r.module_io ∷ one r.station ∷ rest
 
+-- what stands before the route: the subheader, D0 00 or D4 00 in that order; in 4E the serial and the zero word
+abbrev pub subheader_numbers : Form → Header → List Number
+subheader_numbers ThreeE h = one 0xD0 ∷ one 0 ∷ []
+subheader_numbers FourE h = one 0xD4 ∷ one 0 ∷ two h.serial ∷ two 0 ∷ []
+
 -- what stands before the data: the subheader, D0 00 or D4 00 in that order; in 4E the serial and the zero word; the route; the length; the end code
 abbrev pub head_numbers : Form → Header → ℕ → ℕ → List Number
 head_numbers ThreeE h n end = one 0xD0 ∷ one 0 ∷ route_numbers h.route (two n ∷ two end ∷ [])

@@ -1,54 +1,54 @@
 // What can be wrong with a frame, a request or a sheet, and where.
 ghost use Rattle.std.specs.Prelude.{◌≡◌};
-ghost use Rattle.frame.specs.Faults.{number_of, layer_of};
+ghost use Rattle.frame.specs.Faults.{number_of, layer_of, fault};
 
-// Why a call was declined or a request refused.
+// Why a call was declined or a request refused. Each has its number.
 #[derive(Clone, Copy, PartialEq, Eq, Debug)]
 pub enum Cause {
     // the reply space is under 4,096 bytes
-    NoReplySpace,
+    NoReplySpace = 1,
     // the frame is not all there
-    Incomplete,
+    Incomplete = 2,
     // the subheader is neither that of a 3E nor that of a 4E request
-    BadSubheader,
+    BadSubheader = 3,
     // a character in the header is no digit
-    BadDigit,
+    BadDigit = 4,
     // the zero word of a 4E frame is not zero
-    NonZero,
+    NonZero = 5,
     // the length is out of range
-    BadLength,
+    BadLength = 6,
     // a sheet that does not begin with its version byte
-    NoVersion,
+    NoVersion = 7,
     // a record of a sheet that is cut off, or that has bytes after its frame
-    BadRecord,
+    BadRecord = 8,
     // a write while the write flag is off
-    WriteOff,
+    WriteOff = 0x0055,
     // a character in the data is no digit
-    DataDigit,
+    DataDigit = 0xC050,
     // the points of a batch in bits are out of range
-    BitCount,
+    BitCount = 0xC051,
     // the points of a batch in words are out of range
-    WordCount,
+    WordCount = 0xC052,
     // the count of random bits is out of range
-    RandomBitCount,
+    RandomBitCount = 0xC053,
     // the counts of random words and double words are out of range
-    RandomCount,
+    RandomCount = 0xC054,
     // points outside the extent
-    OutsideExtent,
+    OutsideExtent = 0xC056,
     // a command that is not known with its subcommand
-    UnknownCommand,
+    UnknownCommand = 0xC059,
     // a device code or symbol that is not known
-    UnknownDevice,
+    UnknownDevice = 0xC05B,
     // a word device where a bit device is wanted
-    WrongKind,
+    WrongKind = 0xC05C,
     // a monitor request with nothing registered
-    NotRegistered,
+    NotRegistered = 0xC05D,
     // a point that is closed to writing
-    ClosedPoint,
+    ClosedPoint = 0xC05F,
     // a bit value other than 0 and 1, or a filling other than 0
-    BadValue,
+    BadValue = 0xC060,
     // the data end too early, or too late
-    BadSize,
+    BadSize = 0xC061,
 }
 
 // The part of the server that found the fault.
@@ -72,30 +72,7 @@ impl Cause {
     pub fn number(self) -> u16
         ensures { result ≡ number_of self }
     {
-        match self {
-            Cause::NoReplySpace => 1,
-            Cause::Incomplete => 2,
-            Cause::BadSubheader => 3,
-            Cause::BadDigit => 4,
-            Cause::NonZero => 5,
-            Cause::BadLength => 6,
-            Cause::NoVersion => 7,
-            Cause::BadRecord => 8,
-            Cause::WriteOff => 0x0055,
-            Cause::DataDigit => 0xC050,
-            Cause::BitCount => 0xC051,
-            Cause::WordCount => 0xC052,
-            Cause::RandomBitCount => 0xC053,
-            Cause::RandomCount => 0xC054,
-            Cause::OutsideExtent => 0xC056,
-            Cause::UnknownCommand => 0xC059,
-            Cause::UnknownDevice => 0xC05B,
-            Cause::WrongKind => 0xC05C,
-            Cause::NotRegistered => 0xC05D,
-            Cause::ClosedPoint => 0xC05F,
-            Cause::BadValue => 0xC060,
-            Cause::BadSize => 0xC061,
-        }
+        self as u16
     }
 
     // The layer that finds it.
@@ -103,20 +80,24 @@ impl Cause {
         ensures { result ≡ layer_of self }
     {
         match self {
-            Cause::NoReplySpace => Layer::Frame,
-            Cause::Incomplete => Layer::Frame,
-            Cause::BadSubheader => Layer::Frame,
-            Cause::BadDigit => Layer::Frame,
-            Cause::NonZero => Layer::Frame,
-            Cause::BadLength => Layer::Frame,
-            Cause::NoVersion => Layer::Sheet,
-            Cause::BadRecord => Layer::Sheet,
-            Cause::OutsideExtent => Layer::Device,
-            Cause::UnknownDevice => Layer::Device,
-            Cause::WrongKind => Layer::Device,
-            Cause::ClosedPoint => Layer::Device,
+            Cause::NoReplySpace
+            | Cause::Incomplete
+            | Cause::BadSubheader
+            | Cause::BadDigit
+            | Cause::NonZero
+            | Cause::BadLength => Layer::Frame,
+            Cause::NoVersion | Cause::BadRecord => Layer::Sheet,
+            Cause::OutsideExtent | Cause::UnknownDevice | Cause::WrongKind | Cause::ClosedPoint =>
+                Layer::Device,
             _ => Layer::Request,
         }
+    }
+
+    // The fault of this cause at a place.
+    pub fn at(self, place: usize) -> Fault
+        ensures { result ≡ fault self place }
+    {
+        Fault { cause: self, place }
     }
 }
 

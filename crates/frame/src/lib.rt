@@ -7,7 +7,7 @@ mod reading;
 
 pub use fault::{Cause, Fault, Layer};
 pub use header::{Form, Header, Route};
-pub use reading::read_frame;
+pub use reading::{read_frame, read_header};
 
 mod writing;
 

@@ -6,7 +6,7 @@ ghost use Rattle.frame.specs.Headers.{field_fault, number_at, first_two, form_in
 
 use crate::fault::{Cause, Fault};
 use crate::header::{Form, Header, Lead, Route};
-use wire::{FieldFault, WireCode, number_at};
+use wire::{Ascii, Binary, Code, FieldFault, WireCode, number_at};
 
 // The fault of a frame of `present` bytes whose field at `at` cannot be read.
 fn field_fault(present: usize, at: usize, fault: FieldFault) -> Fault
@@ -14,18 +14,9 @@ fn field_fault(present: usize, at: usize, fault: FieldFault) -> Fault
     ensures { result ≡ field_fault present at fault }
 {
     match fault {
-        FieldFault::Missing => Fault {
-            cause: Cause::Incomplete,
-            place: present,
-        },
-        FieldFault::Unknown => Fault {
-            cause: Cause::BadDigit,
-            place: at,
-        },
-        FieldFault::Digit(offset) => Fault {
-            cause: Cause::BadDigit,
-            place: at + offset as usize,
-        },
+        FieldFault::Missing => Cause::Incomplete.at(present),
+        FieldFault::Unknown => Cause::BadDigit.at(at),
+        FieldFault::Digit(offset) => Cause::BadDigit.at(at + offset as usize),
     }
 }
 
@@ -35,10 +26,7 @@ fn number<C: WireCode>(frame: &[u8], at: usize, size: usize) -> Result<(u32, usi
     ensures value { result ≡ number_at C.WireCode.which frame.now at size }
     ensures within { IfOk result (λ p. (at + p.1 ≤ length frame.now) × (p.0 < 256 ^ size) × (p.1 ≡ size * per_byte C.WireCode.which)) }
 {
-    match number_at::<C>(frame, at, size) {
-        Ok(read) => Ok(read),
-        Err(fault) => Err(field_fault(frame.len(), at, fault)),
-    }
+    number_at::<C>(frame, at, size).map_err(|fault| field_fault(frame.len(), at, fault))
 }
 
 // The two bytes of the subheader, in the order in which they are sent.
@@ -57,10 +45,7 @@ fn read_form<C: WireCode>(frame: &[u8]) -> Result<Form, Fault>
     match first_two::<C>(frame) {
         Ok((0x50, 0x00)) => Ok(Form::ThreeE),
         Ok((0x54, 0x00)) => Ok(Form::FourE),
-        _ => Err(Fault {
-            cause: Cause::BadSubheader,
-            place: 0,
-        }),
+        _ => Err(Cause::BadSubheader.at(0)),
     }
 }
 
@@ -142,22 +127,13 @@ fn frame_size<C: WireCode>(lead: Lead, present: usize) -> Result<usize, Fault>
     ensures within { IfOk result (λ n. (n ≤ present) × (lead.timer_at + 6 * per_byte C.WireCode.which ≤ n)) }
 {
     if lead.zero != 0 {
-        return Err(Fault {
-            cause: Cause::NonZero,
-            place: C::field_size(4),
-        });
+        return Err(Cause::NonZero.at(C::field_size(4)));
     }
     if lead.length < C::field_size(6) || lead.length > 8192 {
-        return Err(Fault {
-            cause: Cause::BadLength,
-            place: lead.length_at,
-        });
+        return Err(Cause::BadLength.at(lead.length_at));
     }
     if present - lead.timer_at < lead.length {
-        return Err(Fault {
-            cause: Cause::Incomplete,
-            place: present,
-        });
+        return Err(Cause::Incomplete.at(present));
     }
     Ok(lead.timer_at + lead.length)
 }
@@ -205,23 +181,26 @@ pub fn read_frame<C: WireCode>(frame: &[u8], space: usize) -> Result<Header, Fau
 {
     let present = frame.len();
     if space < 4096 {
-        return Err(Fault {
-            cause: Cause::NoReplySpace,
-            place: 0,
-        });
+        return Err(Cause::NoReplySpace.at(0));
     }
     if present < C::field_size(2) {
-        return Err(Fault {
-            cause: Cause::Incomplete,
-            place: present,
-        });
+        return Err(Cause::Incomplete.at(present));
     }
     let form = read_form::<C>(frame)?;
     if present < C::field_size(lead_bytes(form)) {
-        return Err(Fault {
-            cause: Cause::Incomplete,
-            place: present,
-        });
+        return Err(Cause::Incomplete.at(present));
     }
     read_fields::<C>(frame, form)
+}
+
+// Tests the frame at the front of `frame` in a code, for a reply space of `space` bytes, and reads its header.
+pub fn read_header(code: Code, frame: &[u8], space: usize) -> Result<Header, Fault>
+    ensures value { result ≡ tested code space frame.now }
+    ensures within { IfOk result (λ h. (h.size ≤ length frame.now) × (h.data_at ≤ h.size) × (4096 ≤ space)) }
+    ensures back { TakenUp code space frame.now result }
+{
+    match code {
+        Code::Binary => read_frame::<Binary>(frame, space),
+        Code::Ascii => read_frame::<Ascii>(frame, space),
+    }
 }
