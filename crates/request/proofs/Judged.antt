@@ -1,5 +1,5 @@
 -- A request with lists asks, as it is held, what the walk reads; and what it holds has all of its entries.
-use Rattle.std.proofs.Common.{◌≡◌, ℕ, ◌+◌, ◌*◌, Bool, true, false, cond, leb, List, length, drop, IfOk, Ok, Err, Result, sym, refl, ap, ◌∙◌, drop-drop}
+use Rattle.std.proofs.Common.{◌≡◌, ℕ, ◌+◌, ◌*◌, Bool, true, false, cond, leb, List, length, drop, IfOk, Ok, Err, Result, sym, refl, ap, ◌∙◌, subst, drop-drop}
 use Rattle.memory.specs.Meaning.{Meaning}
 use Rattle.wire.specs.declared.code.Code.{Code}
 use Rattle.wire.specs.declared.code.FieldFault.{FieldFault}
@@ -18,6 +18,10 @@ use Rattle.request.specs.Lists.{two_lists, random_list, write_list, bits_list, h
 use Rattle.request.proofs.Lists.{Entry, walked, free_list, end_is}
 use Rattle.request.proofs.Turns.{all_there}
 use Rattle.request.proofs.Parts.{access_law, setting_law, bit_setting_law}
+
+-- what is held as such asks what it does, and has all of its entries
+pub as_held : (code : Code) {x : Result Held Fault} {y : Result Asked Fault} → asked code x ≡ y → IfOk x (Whole code) → (r : Result Held Fault) → r ≡ x → (asked code r ≡ y) × IfOk r (Whole code)
+as_held code d w r e = (ap (asked code) e ∙ d, subst (λ z. IfOk z (Whole code)) (sym e) w)
 
 -- two lists
 module _ {X : Type 0} (code : Code) (bytes : List ℕ) (e₁ e₂ : (X → Walk Asked) → Walk Asked) (r₁ r₂ : ℕ → Result (X × ℕ) Fault) (q₁ q₂ : List ℕ → Result (X × ℕ) FieldFault) (size₁ size₂ : ℕ)

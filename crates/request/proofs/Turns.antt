@@ -1,5 +1,6 @@
--- A turn of a loop over the entries of a list.
-use Rattle.std.proofs.Common.{◌≡◌, ℕ, zero, suc, ◌+◌, ◌-◌, ◌/◌, ◌%◌, ◌<◌, ◌≤◌, Bool, true, false, cond, ◌&&◌, eqb, leb, List, [], ◌∷◌, length, drop, Ok, Err, Result, sym, refl, ap, ◌∙◌, add-one, arith, drop-drop}
+-- Lists of entries and of points: that all may be read, and a turn of a loop over them.
+use Rattle.std.proofs.Common.{◌≡◌, ℕ, zero, suc, ◌+◌, ◌-◌, ◌/◌, ◌%◌, ◌^◌, ◌<◌, ◌≤◌, Bool, true, false, cond, ◌&&◌, eqb, leb, List, [], ◌∷◌, length, drop, IfOk, OnOk, Ok, Err, Result, sym, refl, ap, ◌∙◌, add-one, arith, drop-drop}
+use Rattle.std.specs.List.{list_all, range_with_len}
 use Rattle.std.proofs.lemmas.List.{get_or_past}
 use Rattle.wire.specs.declared.code.Code.{Code}
 use Rattle.wire.specs.declared.code.Code.TheVariants.{Binary, Ascii}
@@ -7,26 +8,30 @@ use Rattle.wire.specs.declared.code.FieldFault.{FieldFault}
 use Rattle.wire.specs.Numbers.{then}
 use Rattle.wire.specs.Points.{bits_size}
 use Rattle.frame.specs.declared.fault.Fault.{Fault}
-use Rattle.request.specs.Fields.{list_end, list_in, while_read, bit_in, bits_in}
+use Rattle.request.specs.Fields.{list_end, CanRead, ReadsWithin, list_in, while_read, bit_in, bits_in}
 use Rattle.request.specs.Limits.{all_bits}
 
-module _ {X : Type 0} (r : ℕ → Result (X × ℕ) Fault) (count i at : ℕ) (below : i < count) where
-  step : list_end r (count - i) at ≡ then (r at) (λ a. list_end r (count - (i + 1)) (at + a.1))
-  step =
-      let one : count - i ≡ count - (i + 1) + 1 = omega arith in
-      rw (one, add-one (count - (i + 1)))
+-- entries that begin within a bound and end within it may all be read
+pub can_read : {X : Type 0} (asks : ℕ → Type 0) (gives : ℕ → Result (X × ℕ) Fault → Type 0) (bound : ℕ) → bound < 2 ^ 64 → ReadsWithin asks gives bound → (n at : ℕ) → at ≤ bound → CanRead asks gives n at
+can_read asks gives bound fits each zero at h = tt
+can_read {X} asks gives bound fits each (suc n) at h = ((each at h).0, λ r k. on r ((each at h).1 r k) (λ end i. can_read asks gives bound fits each n end i))
+  where
+    on : (r : Result (X × ℕ) Fault) → IfOk r (λ a. at + a.1 ≤ bound) → ((end : ℕ) → end ≤ bound → CanRead asks gives n end) → IfOk r (λ a. (at + a.1 < 2 ^ 64) × CanRead asks gives n (at + a.1))
+    on (Ok a) k ih = (omega arith, ih (at + a.1) k)
+    on (Err e) k ih = tt
 
-  pub stops : (f : Fault) → r at ≡ Err f → list_end r (count - i) at ≡ Err f
-  stops f e = step ∙ ap (λ x. then x (λ a. list_end r (count - (i + 1)) (at + a.1))) e
-
-  pub goes_on : (a : X × ℕ) → r at ≡ Ok a → list_end r (count - (i + 1)) (at + a.1) ≡ list_end r (count - i) at
-  goes_on a e = sym (step ∙ ap (λ x. then x (λ a. list_end r (count - (i + 1)) (at + a.1))) e)
-
--- no turn is left
-pub none_left : {X : Type 0} (r : ℕ → Result (X × ℕ) Fault) (count i at : ℕ) → count ≤ i → list_end r (count - i) at ≡ Ok at
-none_left r count i at h =
-    let z : count - i ≡ 0 = omega arith in
-    rw z
+-- entries that each take one place may all be read, if each of the places may
+pub can_count : {X : Type 0} (asks : ℕ → Type 0) (gives : ℕ → Result (X × ℕ) Fault → Type 0) (count : ℕ) → count < 2 ^ 64
+    → ((i : ℕ) → i < count → asks i × ((r : Result (X × ℕ) Fault) → gives i r → IfOk r (λ a. a.1 ≡ 1)))
+    → (n i : ℕ) → i + n ≡ count → CanRead asks gives n i
+can_count asks gives count fits each zero i h = tt
+can_count {X} asks gives count fits each (suc n) i h =
+    let e = each i (omega arith) in
+    (e.0, λ r k. on r (e.1 r k) (λ next d. can_count asks gives count fits each n next d))
+  where
+    on : (r : Result (X × ℕ) Fault) → IfOk r (λ a. a.1 ≡ 1) → ((next : ℕ) → next + n ≡ count → CanRead asks gives n next) → IfOk r (λ a. (i + a.1 < 2 ^ 64) × CanRead asks gives n (i + a.1))
+    on (Ok a) k ih = (omega (arith, k), ih (i + a.1) (omega (arith, k)))
+    on (Err e) k ih = tt
 
 -- where each entry of a list in the frame is read alike in a part of it, the part has them all
 pub all_there : {X : Type 0} (bytes : List ℕ) (r : ℕ → Result (X × ℕ) Fault) (q : List ℕ → Result (X × ℕ) FieldFault)
@@ -41,23 +46,16 @@ all_there {X} bytes r q reads (suc n) at end h = go (r at) refl h (λ a i. all_t
     go (Ok a) d h ih = rw (reads at a d, drop-drop a.1 at bytes) (ap suc (ih a h))
     go (Err f) d h ih = let z : ◌≡◌ {A = ℕ} 0 1 = cc in omega arith
 
--- one point more takes no more than all of them
-pub bits_fit : (code : Code) (i count : ℕ) → i < count → bits_size code (i + 1) ≤ bits_size code count
-bits_fit Binary i count h = omega arith
-bits_fit Ascii i count h = omega arith
+pub there_if_read : {X : Type 0} (bytes : List ℕ) (r : ℕ → Result (X × ℕ) Fault) (q : List ℕ → Result (X × ℕ) FieldFault)
+    → ((at : ℕ) (a : X × ℕ) → r at ≡ Ok a → q (drop at bytes) ≡ Ok a)
+    → (n at : ℕ) (y : Result ℕ Fault) → y ≡ list_end r n at → OnOk y (length (list_in q n (drop at bytes)) ≡ n)
+there_if_read bytes r q reads n at (Ok end) e = all_there bytes r q reads n at end (sym e)
+there_if_read bytes r q reads n at (Err f) e = tt
 
--- a turn of the loop over points that are to be bits
-module _ (code : Code) (xs : List ℕ) (count i : ℕ) (below : i < count) where
-  bits_step : all_bits (bits_in code xs i (count - i)) ≡ (leb (bit_in code xs i) 1 && all_bits (bits_in code xs (i + 1) (count - (i + 1))))
-  bits_step =
-      let one : count - i ≡ count - (i + 1) + 1 = omega arith in
-      rw (one, add-one (count - (i + 1)))
-
-  pub bit_stops : leb (bit_in code xs i) 1 ≡ false → all_bits (bits_in code xs i (count - i)) ≡ false
-  bit_stops e = bits_step ∙ ap (λ b. b && all_bits (bits_in code xs (i + 1) (count - (i + 1)))) e
-
-  pub bit_goes_on : leb (bit_in code xs i) 1 ≡ true → all_bits (bits_in code xs (i + 1) (count - (i + 1))) ≡ all_bits (bits_in code xs i (count - i))
-  bit_goes_on e = sym (bits_step ∙ ap (λ b. b && all_bits (bits_in code xs (i + 1) (count - (i + 1)))) e)
+-- points that are to be bits, by the index of each
+pub all_bits_from : (code : Code) (xs : List ℕ) (i n : ℕ) → list_all (λ k. leb (bit_in code xs k) 1) (range_with_len i n) ≡ all_bits (bits_in code xs i n)
+all_bits_from code xs i zero = refl
+all_bits_from code xs i (suc n) = ap (λ b. leb (bit_in code xs i) 1 && b) (all_bits_from code xs (i + 1) n)
 
 -- a point past the end of the bytes
 zero_half : (b : Bool) → cond b (0 / 16) (0 % 16) ≡ 0

@@ -1,6 +1,6 @@
 -- The fields of a request's data, at their places in the frame.
 -- A field is tested for presence, then for its digits, then for its value.
-use Rattle.std.specs.Prelude.{ℕ, zero, suc, ◌+◌, ◌*◌, cond, List, [], ◌∷◌, length, drop, Ok, Err, Result, nat_le}
+use Rattle.std.specs.Prelude.{◌≡◌, ℕ, zero, suc, ◌+◌, ◌*◌, ◌^◌, ◌<◌, ◌≤◌, cond, List, [], ◌∷◌, length, drop, IfOk, Ok, Err, Result, nat_le}
 use Rattle.device.specs.declared.types.Device.{Device}
 use Rattle.wire.specs.declared.code.Code.{Code}
 use Rattle.wire.specs.declared.code.FieldFault.{FieldFault}
@@ -46,6 +46,19 @@ counts_at code bytes at =
 abbrev pub list_end : {X : Type 0} → (ℕ → Result (X × ℕ) Fault) → ℕ → ℕ → Result ℕ Fault
 list_end r zero at = Ok at
 list_end r (suc n) at = then (r at) (λ a. list_end r n (at + a.1))
+
+-- n entries from `at` on may each be read, by what is asked of a reader at a place and what may come of it, and end at a place that fits
+abbrev pub CanRead : {X : Type 0} → (ℕ → Type 0) → (ℕ → Result (X × ℕ) Fault → Type 0) → ℕ → ℕ → Type 0
+CanRead asks gives zero at = Unit {0}
+CanRead asks gives (suc n) at = asks at × ((r : _) → gives at r → IfOk r (λ a. (at + a.1 < 2 ^ 64) × CanRead asks gives n (at + a.1)))
+
+-- an entry that begins within n bytes may be read, and ends within them
+abbrev pub ReadsWithin : {X : Type 0} → (ℕ → Type 0) → (ℕ → Result (X × ℕ) Fault → Type 0) → ℕ → Type 0
+ReadsWithin asks gives n = (at : ℕ) → at ≤ n → asks at × ((r : _) → gives at r → IfOk r (λ a. at + a.1 ≤ n))
+
+-- what may come of a reader at a place is what `r` says
+abbrev pub Reads : {X : Type 0} → (ℕ → Result (X × ℕ) Fault → Type 0) → (ℕ → Result (X × ℕ) Fault) → Type 0
+Reads gives r = (at : ℕ) (y : _) → gives at y → y ≡ r at
 
 abbrev pub while_read : {X Y : Type 0} → Result X FieldFault → (X → List Y) → List Y
 while_read (Ok x) f = f x

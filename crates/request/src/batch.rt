@@ -9,7 +9,7 @@ ghost use Rattle.request.specs.Readings.{held, said, Whole, Stands};
 
 use crate::entries::bit_at;
 use crate::fields;
-use crate::spans::{all_open, is_within, points_of};
+use crate::spans::{open, points_of, within};
 use crate::types::Request;
 use device::Kind;
 use frame::{Cause, Fault};
@@ -29,26 +29,15 @@ pub(crate) fn read_bits<'a, C: WireCode, M: ReadableMemory>(
 {
     let (device, number, used) = fields::device::<C>(frame, at)?;
     if device.kind() != Kind::Bit {
-        return Err(Fault {
-            cause: Cause::WrongKind,
-            place: at,
-        });
+        return Err(Cause::WrongKind.at(at));
     }
     let points_at = at + used;
     let (points, used) = fields::number::<C>(frame, points_at, 2)?;
     if points < 1 || points > 3584 {
-        return Err(Fault {
-            cause: Cause::BitCount,
-            place: points_at,
-        });
+        return Err(Cause::BitCount.at(points_at));
     }
     let points = points as usize;
-    if !is_within(memory, device, number, points) {
-        return Err(Fault {
-            cause: Cause::OutsideExtent,
-            place: at,
-        });
-    }
+    within(memory, device, number, points, at)?;
     fields::ended(frame, points_at + used)?;
     Ok(Request::ReadBits {
         device,
@@ -72,18 +61,10 @@ pub(crate) fn read_words<'a, C: WireCode, M: ReadableMemory>(
     let points_at = at + used;
     let (points, used) = fields::number::<C>(frame, points_at, 2)?;
     if points < 1 || points > 960 {
-        return Err(Fault {
-            cause: Cause::WordCount,
-            place: points_at,
-        });
+        return Err(Cause::WordCount.at(points_at));
     }
     let words = points as usize;
-    if !is_within(memory, device, number, points_of(device.kind(), words)) {
-        return Err(Fault {
-            cause: Cause::OutsideExtent,
-            place: at,
-        });
-    }
+    within(memory, device, number, points_of(device.kind(), words), at)?;
     fields::ended(frame, points_at + used)?;
     Ok(Request::ReadWords {
         device,
@@ -98,12 +79,7 @@ fn check_words<C: WireCode>(frame: &[u8], at: usize, count: usize) -> Result<usi
     ensures value { result ≡ list_end (value_at C.WireCode.which frame.now) count at }
     ensures whole { OnOk result (length (list_in (number_in C.WireCode.which 2) count (drop at frame.now)) ≡ count) }
 {
-    let mut place = at;
-    for i in 0..count {
-        let (_, used) = fields::number::<C>(frame, place, 2)?;
-        place += used;
-    }
-    Ok(place)
+    fields::list_end(at, count, |at| fields::number::<C>(frame, at, 2))
 }
 
 // 1401 with 0000: a batch of words to write.
@@ -121,24 +97,11 @@ pub(crate) fn write_words<'a, C: WireCode, M: WritableMemory>(
     let points_at = at + used;
     let (points, used) = fields::number::<C>(frame, points_at, 2)?;
     if points < 1 || points > 960 {
-        return Err(Fault {
-            cause: Cause::WordCount,
-            place: points_at,
-        });
+        return Err(Cause::WordCount.at(points_at));
     }
     let words = points as usize;
-    if !is_within(memory, device, number, points_of(device.kind(), words)) {
-        return Err(Fault {
-            cause: Cause::OutsideExtent,
-            place: at,
-        });
-    }
-    if !all_open(memory, device, number, points_of(device.kind(), words)) {
-        return Err(Fault {
-            cause: Cause::ClosedPoint,
-            place: at,
-        });
-    }
+    within(memory, device, number, points_of(device.kind(), words), at)?;
+    open(memory, device, number, points_of(device.kind(), words), at)?;
     let place = points_at + used;
     let used = fields::present(frame, place, words * C::field_size(2))?;
     let _ = check_words::<C>(frame, place, words)?;
@@ -157,10 +120,7 @@ fn half<C: WireCode>(bytes: &[u8], at: usize, index: usize) -> Result<u8, Fault>
     requires { (bits_size C.WireCode.which (index + 1) ≤ length bytes.now) × (at + index + 255 < 2 ^ 64) }
     ensures { result ≡ placed (at + index) (half_in C.WireCode.which bytes.now index) }
 {
-    match C::read_half(bytes, index) {
-        Ok(digit) => Ok(digit),
-        Err(fault) => Err(fields::data_fault(at + index, fault)),
-    }
+    C::read_half(bytes, index).map_err(|fault| fields::data_fault(at + index, fault))
 }
 
 // Tests the digits of so many points in bits that stand at `at`, and says how many they are.
@@ -168,10 +128,11 @@ fn check_bits<C: WireCode>(bytes: &[u8], at: usize, count: usize) -> Result<usiz
     requires { (bits_size C.WireCode.which count ≤ length bytes.now) × (at + count + 255 < 2 ^ 64) }
     ensures { result ≡ list_end (half_at C.WireCode.which bytes.now at) count 0 }
 {
-    for i in 0..count {
-        let _digit = half::<C>(bytes, at, i)?;
-    }
-    Ok(count)
+    fields::list_end(
+        0,
+        count,
+        |index| half::<C>(bytes, at, index).map(|digit| (digit, 1)),
+    )
 }
 
 // Whether each of so many points in bits is 0 or 1.
@@ -179,12 +140,7 @@ fn are_bits<C: WireCode>(bytes: &[u8], count: usize) -> bool
     requires { count ≤ 3584 }
     ensures { result ≡ all_bits (bits_in C.WireCode.which bytes.now 0 count) }
 {
-    for i in 0..count {
-        if bit_at::<C>(bytes, i) > 1 {
-            return false;
-        }
-    }
-    true
+    (0..count).all(|index| bit_at::<C>(bytes, index) <= 1)
 }
 
 // 1401 with 0001: a batch of bits to write.
@@ -200,47 +156,22 @@ pub(crate) fn write_bits<'a, C: WireCode, M: WritableMemory>(
 {
     let (device, number, used) = fields::device::<C>(frame, at)?;
     if device.kind() != Kind::Bit {
-        return Err(Fault {
-            cause: Cause::WrongKind,
-            place: at,
-        });
+        return Err(Cause::WrongKind.at(at));
     }
     let points_at = at + used;
     let (points, used) = fields::number::<C>(frame, points_at, 2)?;
     if points < 1 || points > 3584 {
-        return Err(Fault {
-            cause: Cause::BitCount,
-            place: points_at,
-        });
+        return Err(Cause::BitCount.at(points_at));
     }
     let points = points as usize;
-    if !is_within(memory, device, number, points) {
-        return Err(Fault {
-            cause: Cause::OutsideExtent,
-            place: at,
-        });
-    }
-    if !all_open(memory, device, number, points) {
-        return Err(Fault {
-            cause: Cause::ClosedPoint,
-            place: at,
-        });
-    }
+    within(memory, device, number, points, at)?;
+    open(memory, device, number, points, at)?;
     let place = points_at + used;
     let used = fields::present(frame, place, C::bits_size(points))?;
     let data = fields::part_from(frame, place);
     let _ = check_bits::<C>(data, place, points)?;
-    if !C::is_filled(data, points) {
-        return Err(Fault {
-            cause: Cause::BadValue,
-            place,
-        });
-    }
-    if !are_bits::<C>(data, points) {
-        return Err(Fault {
-            cause: Cause::BadValue,
-            place,
-        });
+    if !C::is_filled(data, points) || !are_bits::<C>(data, points) {
+        return Err(Cause::BadValue.at(place));
     }
     fields::ended(frame, place + used)?;
     Ok(Request::WriteBits {

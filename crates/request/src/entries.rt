@@ -59,8 +59,5 @@ pub fn bit_at<C: WireCode>(bytes: &[u8], index: usize) -> u16
     if bytes.len() < C::bits_size(index + 1) {
         return 0;
     }
-    match C::read_half(bytes, index) {
-        Ok(digit) => digit as u16,
-        Err(_) => 0,
-    }
+    C::read_half(bytes, index).map_or(0, u16::from)
 }

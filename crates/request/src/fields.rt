@@ -1,7 +1,8 @@
 // The fields of a request's data.
-ghost use Rattle.std.specs.Prelude.{◌≡◌, ◌+◌, ◌-◌, ◌*◌, ◌^◌, ◌<◌, ◌≤◌, length, drop, IfOk};
+ghost use Rattle.std.specs.Prelude.{◌≡◌, ℕ, ◌+◌, ◌-◌, ◌*◌, ◌^◌, ◌<◌, ◌≤◌, length, drop, Result, IfOk};
 ghost use Rattle.wire.specs.Numbers.{per_byte};
-ghost use Rattle.request.specs.Fields.{data_fault, number_at, device_at, present, counts_at, ends};
+ghost use Rattle.frame.specs.declared.fault.Fault.{Fault};
+ghost use Rattle.request.specs.Fields.{data_fault, number_at, device_at, present, counts_at, list_end, CanRead, Reads, ReadsWithin, ends};
 
 use device::Device;
 use frame::{Cause, Fault};
@@ -13,18 +14,9 @@ pub(crate) fn data_fault(at: usize, fault: FieldFault) -> Fault
     ensures { result ≡ data_fault at fault }
 {
     match fault {
-        FieldFault::Missing => Fault {
-            cause: Cause::BadSize,
-            place: at,
-        },
-        FieldFault::Unknown => Fault {
-            cause: Cause::UnknownDevice,
-            place: at,
-        },
-        FieldFault::Digit(offset) => Fault {
-            cause: Cause::DataDigit,
-            place: at + offset as usize,
-        },
+        FieldFault::Missing => Cause::BadSize.at(at),
+        FieldFault::Unknown => Cause::UnknownDevice.at(at),
+        FieldFault::Digit(offset) => Cause::DataDigit.at(at + offset as usize),
     }
 }
 
@@ -38,10 +30,7 @@ pub(crate) fn number<C: WireCode>(
     ensures value { result ≡ number_at C.WireCode.which frame.now at size }
     ensures within { IfOk result (λ p. (at + p.1 ≤ length frame.now) × (p.0 < 256 ^ size) × (p.1 ≡ size * per_byte C.WireCode.which)) }
 {
-    match wire::number_at::<C>(frame, at, size) {
-        Ok(read) => Ok(read),
-        Err(fault) => Err(data_fault(at, fault)),
-    }
+    wire::number_at::<C>(frame, at, size).map_err(|fault| data_fault(at, fault))
 }
 
 // The device field at `at`: the device, the number, and the wire bytes it used.
@@ -50,10 +39,7 @@ pub(crate) fn device<C: WireCode>(frame: &[u8], at: usize) -> Result<(Device, u3
     ensures value { result ≡ device_at C.WireCode.which frame.now at }
     ensures within { IfOk result (λ d. (at + d.2 ≤ length frame.now) × (d.1 < 2 ^ 24) × (d.2 ≡ 4 * per_byte C.WireCode.which)) }
 {
-    match wire::device_at::<C>(frame, at) {
-        Ok(read) => Ok(read),
-        Err(fault) => Err(data_fault(at, fault)),
-    }
+    wire::device_at::<C>(frame, at).map_err(|fault| data_fault(at, fault))
 }
 
 // A field of `size` wire bytes at `at` is there.
@@ -63,10 +49,7 @@ pub(crate) fn present(frame: &[u8], at: usize, size: usize) -> Result<usize, Fau
     ensures within { IfOk result (λ n. (n ≡ size) × (at + size ≤ length frame.now)) }
 {
     if frame.len() - at < size {
-        return Err(Fault {
-            cause: Cause::BadSize,
-            place: at,
-        });
+        return Err(Cause::BadSize.at(at));
     }
     Ok(size)
 }
@@ -92,15 +75,30 @@ pub(crate) fn part_from(frame: &[u8], place: usize) -> &[u8]
     &frame[place..]
 }
 
+// Reads so many entries, one behind the other from `at` on, and says where they end.
+pub(crate) fn list_end<T: Copy, F: Fn(usize) -> Result<(T, usize), Fault>>(
+    at: usize,
+    count: usize,
+    read: F,
+) -> Result<usize, Fault>
+    requires { CanRead (F.pre read) (F.post read) count at }
+    ensures value { (r : ℕ → Result (T × ℕ) Fault) → Reads (F.post read) r → result ≡ list_end r count at }
+    ensures within { (n : ℕ) → ReadsWithin (F.pre read) (F.post read) n → at ≤ n → IfOk result (λ end. end ≤ n) }
+{
+    let mut place = at;
+    for _ in 0..count {
+        let (_, used) = read(place)?;
+        place += used;
+    }
+    Ok(place)
+}
+
 // The end of the data: bytes that are left are a fault at the first of them.
 pub(crate) fn ended(frame: &[u8], at: usize) -> Result<(), Fault>
     ensures { result ≡ ends frame.now at tt }
 {
     if at < frame.len() {
-        return Err(Fault {
-            cause: Cause::BadSize,
-            place: at,
-        });
+        return Err(Cause::BadSize.at(at));
     }
     Ok(())
 }

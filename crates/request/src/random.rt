@@ -1,15 +1,16 @@
 // Lists of entries, each with a device and a number of its own.
-ghost use Rattle.std.specs.Prelude.{◌≡◌, ◌+◌, ◌*◌, ◌<◌, ◌≤◌, length, IfOk};
+ghost use Rattle.std.specs.Prelude.{◌≡◌, ℕ, ◌+◌, ◌*◌, ◌^◌, ◌<◌, ◌≤◌, Bool, length, Result, IfOk};
 ghost use Rattle.wire.specs.Numbers.{per_byte};
-ghost use Rattle.request.specs.Fields.{list_end};
+ghost use Rattle.frame.specs.declared.fault.Fault.{Fault};
+ghost use Rattle.request.specs.Fields.{Reads, ReadsWithin};
 ghost use Rattle.request.specs.Requests.{RandomRead, RandomWrite, RandomBits, judged};
 ghost use Rattle.request.specs.Requests.{Register as Registering};
 ghost use Rattle.request.specs.Entries.{access_at, setting_at, bit_setting_at};
-ghost use Rattle.request.specs.Readings.{held, said, Whole, Stands, held_random_read, held_register, held_random_write};
-ghost use Rattle.request.specs.Lists.{random_list, write_list, bits_list, holding, holding_bits};
+ghost use Rattle.request.specs.Readings.{held, said, Whole, Stands};
+ghost use Rattle.request.specs.Lists.{two_lists, random_list, write_list, bits_list};
 
 use crate::fields;
-use crate::spans::{all_open, is_within, points_of};
+use crate::spans::{open, points_of, within};
 use crate::types::Request;
 use device::{Device, Kind};
 use frame::{Cause, Fault};
@@ -28,33 +29,8 @@ fn access<C: WireCode, M: ReadableMemory>(
     ensures within { IfOk result (λ a. at + a.1 ≤ length frame.now) }
 {
     let (device, number, used) = fields::device::<C>(frame, at)?;
-    if !is_within(memory, device, number, points_of(device.kind(), width)) {
-        return Err(Fault {
-            cause: Cause::OutsideExtent,
-            place: at,
-        });
-    }
+    within(memory, device, number, points_of(device.kind(), width), at)?;
     Ok(((device, number), used))
-}
-
-// Tests so many accesses of `width` words from `at` on, and says where they end.
-fn check_accesses<C: WireCode, M: ReadableMemory>(
-    memory: &M,
-    frame: &[u8],
-    at: usize,
-    count: usize,
-    width: usize,
-) -> Result<usize, Fault>
-    requires { (width ≤ 2) × (at ≤ length frame.now) }
-    ensures value { result ≡ list_end (access_at C.WireCode.which (M.ReadableMemory.means memory.now) width frame.now) count at }
-    ensures within { IfOk result (λ end. end ≤ length frame.now) }
-{
-    let mut place = at;
-    for i in 0..count {
-        let (_, used) = access::<C, M>(memory, frame, place, width)?;
-        place += used;
-    }
-    Ok(place)
 }
 
 // One setting of `width` words, tested, and the wire bytes it used.
@@ -69,40 +45,10 @@ fn setting<C: WireCode, M: WritableMemory>(
     ensures within { IfOk result (λ a. at + a.1 ≤ length frame.now) }
 {
     let (device, number, used) = fields::device::<C>(frame, at)?;
-    if !is_within(memory, device, number, points_of(device.kind(), width)) {
-        return Err(Fault {
-            cause: Cause::OutsideExtent,
-            place: at,
-        });
-    }
-    if !all_open(memory, device, number, points_of(device.kind(), width)) {
-        return Err(Fault {
-            cause: Cause::ClosedPoint,
-            place: at,
-        });
-    }
+    within(memory, device, number, points_of(device.kind(), width), at)?;
+    open(memory, device, number, points_of(device.kind(), width), at)?;
     let (value, more) = fields::number::<C>(frame, at + used, 2 * width)?;
     Ok((((device, number), value), used + more))
-}
-
-// Tests so many settings of `width` words from `at` on, and says where they end.
-fn check_settings<C: WireCode, M: WritableMemory>(
-    memory: &M,
-    frame: &[u8],
-    at: usize,
-    count: usize,
-    width: usize,
-) -> Result<usize, Fault>
-    requires { (width ≤ 2) × (at ≤ length frame.now) }
-    ensures value { result ≡ list_end (setting_at C.WireCode.which (M.ReadableMemory.means memory.now) width frame.now) count at }
-    ensures within { IfOk result (λ end. end ≤ length frame.now) }
-{
-    let mut place = at;
-    for i in 0..count {
-        let (_, used) = setting::<C, M>(memory, frame, place, width)?;
-        place += used;
-    }
-    Ok(place)
 }
 
 // One setting of a point in bits, tested, and the wire bytes it used.
@@ -117,51 +63,42 @@ fn bit_setting<C: WireCode, M: WritableMemory>(
 {
     let (device, number, used) = fields::device::<C>(frame, at)?;
     if device.kind() != Kind::Bit {
-        return Err(Fault {
-            cause: Cause::WrongKind,
-            place: at,
-        });
+        return Err(Cause::WrongKind.at(at));
     }
-    if !is_within(memory, device, number, 1) {
-        return Err(Fault {
-            cause: Cause::OutsideExtent,
-            place: at,
-        });
-    }
-    if !all_open(memory, device, number, 1) {
-        return Err(Fault {
-            cause: Cause::ClosedPoint,
-            place: at,
-        });
-    }
+    within(memory, device, number, 1, at)?;
+    open(memory, device, number, 1, at)?;
     let value_at = at + used;
     let (value, more) = fields::number::<C>(frame, value_at, 1)?;
     if value > 1 {
-        return Err(Fault {
-            cause: Cause::BadValue,
-            place: value_at,
-        });
+        return Err(Cause::BadValue.at(value_at));
     }
     Ok((((device, number), value), used + more))
 }
 
-// Tests so many settings of points in bits from `at` on, and says where they end.
-fn check_bit_settings<C: WireCode, M: WritableMemory>(
-    memory: &M,
-    frame: &[u8],
-    at: usize,
-    count: usize,
-) -> Result<usize, Fault>
-    requires { at ≤ length frame.now }
-    ensures value { result ≡ list_end (bit_setting_at C.WireCode.which (M.ReadableMemory.means memory.now) frame.now) count at }
-    ensures within { IfOk result (λ end. end ≤ length frame.now) }
+// Tests a list of words and one of double words, behind their counts, to the end of the frame: the counts, and where the lists begin.
+fn two_lists<
+    C: WireCode,
+    T: Copy,
+    P: Fn(usize, usize) -> bool,
+    F: Fn(usize) -> Result<(T, usize), Fault>,
+    G: Fn(usize) -> Result<(T, usize), Fault>,
+>(frame: &[u8], at: usize, fits: P, word: F, double: G) -> Result<(usize, usize, usize), Fault>
+    requires here { at ≤ length frame.now }
+    requires counts { (w d : ℕ) → w < 256 → d < 256 → P.pre fits w d }
+    requires words { ReadsWithin (F.pre word) (F.post word) (length frame.now) }
+    requires doubles { ReadsWithin (G.pre double) (G.post double) (length frame.now) }
+    ensures value { (ok : ℕ → ℕ → Bool) (r s : ℕ → Result (T × ℕ) Fault) → ((w d : ℕ) (b : Bool) → P.post fits w d b → b ≡ ok w d) → Reads (F.post word) r → Reads (G.post double) s → result ≡ two_lists C.WireCode.which frame.now at ok r s }
+    ensures within { IfOk result (λ a. (a.2 ≤ length frame.now) × (a.2 ≡ at + 2 * per_byte C.WireCode.which)) }
 {
-    let mut place = at;
-    for i in 0..count {
-        let (_, used) = bit_setting::<C, M>(memory, frame, place)?;
-        place += used;
+    let (words, doubles, used) = fields::counts::<C>(frame, at)?;
+    if !fits(words, doubles) {
+        return Err(Cause::RandomCount.at(at));
     }
-    Ok(place)
+    let place = at + used;
+    let doubles_at = fields::list_end(place, words, word)?;
+    let end = fields::list_end(doubles_at, doubles, double)?;
+    fields::ended(frame, end)?;
+    Ok((words, doubles, place))
 }
 
 // Tests the lists of a random read or a registration: the counts, and where the lists begin.
@@ -174,18 +111,13 @@ fn random_list<C: WireCode, M: ReadableMemory>(
     ensures value { result ≡ random_list C.WireCode.which (M.ReadableMemory.means memory.now) frame.now at }
     ensures within { IfOk result (λ a. (a.2 ≤ length frame.now) × (a.2 ≡ at + 2 * per_byte C.WireCode.which)) }
 {
-    let (words, doubles, used) = fields::counts::<C>(frame, at)?;
-    if words + doubles < 1 || words + doubles > 192 {
-        return Err(Fault {
-            cause: Cause::RandomCount,
-            place: at,
-        });
-    }
-    let place = at + used;
-    let doubles_at = check_accesses::<C, M>(memory, frame, place, words, 1)?;
-    let end = check_accesses::<C, M>(memory, frame, doubles_at, doubles, 2)?;
-    fields::ended(frame, end)?;
-    Ok((words, doubles, place))
+    two_lists::<C, _, _, _, _>(
+        frame,
+        at,
+        |words, doubles| (1..=192).contains(&(words + doubles)),
+        |at| access::<C, M>(memory, frame, at, 1),
+        |at| access::<C, M>(memory, frame, at, 2),
+    )
 }
 
 // Tests the lists of a random write: the counts, and where the lists begin.
@@ -198,18 +130,13 @@ fn write_list<C: WireCode, M: WritableMemory>(
     ensures value { result ≡ write_list C.WireCode.which (M.ReadableMemory.means memory.now) frame.now at }
     ensures within { IfOk result (λ a. (a.2 ≤ length frame.now) × (a.2 ≡ at + 2 * per_byte C.WireCode.which)) }
 {
-    let (words, doubles, used) = fields::counts::<C>(frame, at)?;
-    if 12 * words + 14 * doubles < 1 || 12 * words + 14 * doubles > 1920 {
-        return Err(Fault {
-            cause: Cause::RandomCount,
-            place: at,
-        });
-    }
-    let place = at + used;
-    let doubles_at = check_settings::<C, M>(memory, frame, place, words, 1)?;
-    let end = check_settings::<C, M>(memory, frame, doubles_at, doubles, 2)?;
-    fields::ended(frame, end)?;
-    Ok((words, doubles, place))
+    two_lists::<C, _, _, _, _>(
+        frame,
+        at,
+        |words, doubles| (1..=1920).contains(&(12 * words + 14 * doubles)),
+        |at| setting::<C, M>(memory, frame, at, 1),
+        |at| setting::<C, M>(memory, frame, at, 2),
+    )
 }
 
 // Tests the list of a random write in bits: the count, and where the list begins.
@@ -224,91 +151,13 @@ fn bits_list<C: WireCode, M: WritableMemory>(
 {
     let (count, used) = fields::number::<C>(frame, at, 1)?;
     if count < 1 || count > 188 {
-        return Err(Fault {
-            cause: Cause::RandomBitCount,
-            place: at,
-        });
+        return Err(Cause::RandomBitCount.at(at));
     }
     let count = count as usize;
     let place = at + used;
-    let end = check_bit_settings::<C, M>(memory, frame, place, count)?;
+    let end = fields::list_end(place, count, |at| bit_setting::<C, M>(memory, frame, at))?;
     fields::ended(frame, end)?;
     Ok((count, place))
-}
-
-// A random read, as it is held.
-fn hold_read<'a, C: WireCode, M: ReadableMemory>(
-    memory: &M,
-    frame: &'a [u8],
-    at: usize,
-) -> Result<Request<'a>, Fault>
-    requires { at ≤ length frame.now }
-    ensures value { held result ≡ holding held_random_read frame.now (random_list C.WireCode.which (M.ReadableMemory.means memory.now) frame.now at) }
-    ensures stands { IfOk (held result) (Stands C.WireCode.which frame.now at) }
-{
-    let (words, doubles, place) = random_list::<C, M>(memory, frame, at)?;
-    Ok(Request::ReadRandom {
-        words,
-        doubles,
-        list: fields::part_from(frame, place),
-        place,
-    })
-}
-
-// A registration, as it is held.
-fn hold_register<'a, C: WireCode, M: ReadableMemory>(
-    memory: &M,
-    frame: &'a [u8],
-    at: usize,
-) -> Result<Request<'a>, Fault>
-    requires { at ≤ length frame.now }
-    ensures value { held result ≡ holding held_register frame.now (random_list C.WireCode.which (M.ReadableMemory.means memory.now) frame.now at) }
-    ensures stands { IfOk (held result) (Stands C.WireCode.which frame.now at) }
-{
-    let (words, doubles, place) = random_list::<C, M>(memory, frame, at)?;
-    Ok(Request::Register {
-        words,
-        doubles,
-        list: fields::part_from(frame, place),
-        place,
-    })
-}
-
-// A random write, as it is held.
-fn hold_write<'a, C: WireCode, M: WritableMemory>(
-    memory: &M,
-    frame: &'a [u8],
-    at: usize,
-) -> Result<Request<'a>, Fault>
-    requires { at ≤ length frame.now }
-    ensures value { held result ≡ holding held_random_write frame.now (write_list C.WireCode.which (M.ReadableMemory.means memory.now) frame.now at) }
-    ensures stands { IfOk (held result) (Stands C.WireCode.which frame.now at) }
-{
-    let (words, doubles, place) = write_list::<C, M>(memory, frame, at)?;
-    Ok(Request::WriteRandom {
-        words,
-        doubles,
-        list: fields::part_from(frame, place),
-        place,
-    })
-}
-
-// A random write in bits, as it is held.
-fn hold_bits<'a, C: WireCode, M: WritableMemory>(
-    memory: &M,
-    frame: &'a [u8],
-    at: usize,
-) -> Result<Request<'a>, Fault>
-    requires { at ≤ length frame.now }
-    ensures value { held result ≡ holding_bits frame.now (bits_list C.WireCode.which (M.ReadableMemory.means memory.now) frame.now at) }
-    ensures stands { IfOk (held result) (Stands C.WireCode.which frame.now at) }
-{
-    let (count, place) = bits_list::<C, M>(memory, frame, at)?;
-    Ok(Request::WriteRandomBits {
-        count,
-        list: fields::part_from(frame, place),
-        place,
-    })
 }
 
 // 0403 with 0000: a random read.
@@ -322,7 +171,13 @@ pub(crate) fn read_random<'a, C: WireCode, M: ReadableMemory>(
     ensures whole { IfOk (held result) (Whole C.WireCode.which) }
     ensures stands { IfOk (held result) (Stands C.WireCode.which frame.now at) }
 {
-    hold_read::<C, M>(memory, frame, at)
+    let (words, doubles, place) = random_list::<C, M>(memory, frame, at)?;
+    Ok(Request::ReadRandom {
+        words,
+        doubles,
+        list: fields::part_from(frame, place),
+        place,
+    })
 }
 
 // 0801 with 0000: a registration. Its spans are tested; what is open is not.
@@ -336,7 +191,13 @@ pub(crate) fn register<'a, C: WireCode, M: ReadableMemory>(
     ensures whole { IfOk (held result) (Whole C.WireCode.which) }
     ensures stands { IfOk (held result) (Stands C.WireCode.which frame.now at) }
 {
-    hold_register::<C, M>(memory, frame, at)
+    let (words, doubles, place) = random_list::<C, M>(memory, frame, at)?;
+    Ok(Request::Register {
+        words,
+        doubles,
+        list: fields::part_from(frame, place),
+        place,
+    })
 }
 
 // 1402 with 0000: a random write.
@@ -350,7 +211,13 @@ pub(crate) fn write_random<'a, C: WireCode, M: WritableMemory>(
     ensures whole { IfOk (held result) (Whole C.WireCode.which) }
     ensures stands { IfOk (held result) (Stands C.WireCode.which frame.now at) }
 {
-    hold_write::<C, M>(memory, frame, at)
+    let (words, doubles, place) = write_list::<C, M>(memory, frame, at)?;
+    Ok(Request::WriteRandom {
+        words,
+        doubles,
+        list: fields::part_from(frame, place),
+        place,
+    })
 }
 
 // 1402 with 0001: a random write in bits.
@@ -364,5 +231,10 @@ pub(crate) fn write_random_bits<'a, C: WireCode, M: WritableMemory>(
     ensures whole { IfOk (held result) (Whole C.WireCode.which) }
     ensures stands { IfOk (held result) (Stands C.WireCode.which frame.now at) }
 {
-    hold_bits::<C, M>(memory, frame, at)
+    let (count, place) = bits_list::<C, M>(memory, frame, at)?;
+    Ok(Request::WriteRandomBits {
+        count,
+        list: fields::part_from(frame, place),
+        place,
+    })
 }

@@ -44,18 +44,14 @@ fn read_command<'a, C: WireCode, M: WritableMemory>(
         (0x0403, 0x0000) => random::read_random::<C, M>(memory, frame, at),
         (0x0801, 0x0000) => random::register::<C, M>(memory, frame, at),
         (0x0802, 0x0000) => read_monitor::<C, M>(memory, frame, at),
-        (0x1401 | 0x1402, 0x0000 | 0x0001) if !write_flag => Err(Fault {
-            cause: Cause::WriteOff,
-            place: header.command_at,
-        }),
+        (0x1401 | 0x1402, 0x0000 | 0x0001) if !write_flag => Err(Cause::WriteOff.at(
+            header.command_at,
+        )),
         (0x1401, 0x0001) => batch::write_bits::<C, M>(memory, frame, at),
         (0x1401, 0x0000) => batch::write_words::<C, M>(memory, frame, at),
         (0x1402, 0x0001) => random::write_random_bits::<C, M>(memory, frame, at),
         (0x1402, 0x0000) => random::write_random::<C, M>(memory, frame, at),
-        _ => Err(Fault {
-            cause: Cause::UnknownCommand,
-            place: header.command_at,
-        }),
+        _ => Err(Cause::UnknownCommand.at(header.command_at)),
     }
 }
 

@@ -1,8 +1,11 @@
 // The points that a request reaches, tested over the memory.
-ghost use Rattle.std.specs.Prelude.{◌≡◌, ◌+◌, ◌*◌, ◌^◌, ◌<◌, ◌≤◌};
+ghost use Rattle.std.specs.Prelude.{◌≡◌, ◌+◌, ◌*◌, ◌^◌, ◌<◌, ◌≤◌, cond, Ok, Err};
+ghost use Rattle.frame.specs.declared.fault.Cause.TheVariants.{OutsideExtent, ClosedPoint};
+ghost use Rattle.frame.specs.Faults.{fault};
 ghost use Rattle.request.specs.Limits.{points, within, all_open};
 
 use device::{Device, Kind};
+use frame::{Cause, Fault};
 use memory::{ReadableMemory, WritableMemory};
 
 // The points of so many words.
@@ -18,12 +21,7 @@ pub(crate) fn points_of(kind: Kind, words: usize) -> usize
 }
 
 // Whether so many points from `number` on lie within the extent.
-pub(crate) fn is_within<M: ReadableMemory>(
-    memory: &M,
-    device: Device,
-    number: u32,
-    points: usize,
-) -> bool
+fn is_within<M: ReadableMemory>(memory: &M, device: Device, number: u32, points: usize) -> bool
     requires { points ≤ 65536 }
     ensures { result ≡ within (M.ReadableMemory.means memory.now) device number points }
 {
@@ -31,19 +29,45 @@ pub(crate) fn is_within<M: ReadableMemory>(
 }
 
 // Whether so many points from `number` on are open.
-pub(crate) fn all_open<M: WritableMemory>(
+fn all_open<M: WritableMemory>(memory: &M, device: Device, number: u32, points: usize) -> bool
+    requires { (number < 2 ^ 24) × (points ≤ 65536) }
+    ensures { result ≡ all_open (M.ReadableMemory.means memory.now) device number points }
+{
+    (0..points).all(|i| memory.is_open(device, number + i as u32))
+}
+
+// So many points from `number` on lie within the extent; the fault is at the device field, which stands at `at`.
+pub(crate) fn within<M: ReadableMemory>(
     memory: &M,
     device: Device,
     number: u32,
     points: usize,
-) -> bool
-    requires { (number < 2 ^ 24) × (points ≤ 65536) }
-    ensures { result ≡ all_open (M.ReadableMemory.means memory.now) device number points }
+    at: usize,
+) -> Result<(), Fault>
+    requires { points ≤ 65536 }
+    ensures { result ≡ cond (within (M.ReadableMemory.means memory.now) device number points) (Ok tt) (Err (fault OutsideExtent at)) }
 {
-    for i in 0..points {
-        if !memory.is_open(device, number + i as u32) {
-            return false;
-        }
+    if is_within(memory, device, number, points) {
+        Ok(())
+    } else {
+        Err(Cause::OutsideExtent.at(at))
     }
-    true
+}
+
+// So many points from `number` on are open; the fault is at the device field, which stands at `at`.
+pub(crate) fn open<M: WritableMemory>(
+    memory: &M,
+    device: Device,
+    number: u32,
+    points: usize,
+    at: usize,
+) -> Result<(), Fault>
+    requires { (number < 2 ^ 24) × (points ≤ 65536) }
+    ensures { result ≡ cond (all_open (M.ReadableMemory.means memory.now) device number points) (Ok tt) (Err (fault ClosedPoint at)) }
+{
+    if all_open(memory, device, number, points) {
+        Ok(())
+    } else {
+        Err(Cause::ClosedPoint.at(at))
+    }
 }

@@ -1,19 +1,12 @@
-use Rattle.std.proofs.Common.{◌≡◌, true, false, leb, sym, ◌∙◌, arith, le-leb}
-use borrow.Author.Tests.{lt-leb}
+use Rattle.std.proofs.Common.{leb, refl, ◌∙◌, arith, rules, tests}
+use Rattle.std.proofs.lemmas.Iterator.{YieldsList-from_range}
+use Rattle.std.proofs.lemmas.Iterator.Search.{all_from_yields_List}
 use Rattle.request.specs.Fields.{bit_in}
-use Rattle.request.proofs.Turns.{bit_stops, bit_goes_on}
+use Rattle.request.proofs.Turns.{all_bits_from}
 use Rattle.request.proofs.batch.are_bits.Goals as goal
 
-pub returns-then-bit_at-gt1 : goal.returns-then-bit_at-gt1
-returns-then-bit_at-gt1 g c =
+pub returns : goal.returns
+returns g c =
     let code = g.C.WireCode.which in
-    let xs = c.args.bytes.now in
-    let e : leb (bit_in code xs c.loop-i.i) 1 ≡ false = lt-leb (bit_in code xs c.loop-i.i) 1 (omega (arith, c.bit_at.ensures.value)) in
-    sym (sym c.loop-i.invariant ∙ bit_stops code xs c.args.count c.loop-i.i (omega arith) e)
-
-pub loop-i-preserved : goal.loop-i-preserved
-loop-i-preserved g c =
-    let code = g.C.WireCode.which in
-    let xs = c.args.bytes.now in
-    let e : leb (bit_in code xs c.loop-i.i) 1 ≡ true = le-leb (bit_in code xs c.loop-i.i) 1 (omega (arith, c.bit_at.ensures.value)) in
-    bit_goes_on code xs c.args.count c.loop-i.i (omega arith) e ∙ c.loop-i.invariant
+    all_from_yields_List (λ k. leb (bit_in code c.args.bytes.now k) 1) _ _ _ c.all.ensures.ran (YieldsList-from_range 0 c.args.count c.args.count refl (omega arith)) (λ x b q k. search (rules, tests))
+    ∙ all_bits_from code c.args.bytes.now 0 c.args.count

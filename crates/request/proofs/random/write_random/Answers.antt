@@ -1,15 +1,19 @@
-use Rattle.std.proofs.Common.{IfOk, sym, ap, ◌∙◌, subst}
-use Rattle.request.specs.Readings.{asked, Whole}
-use Rattle.request.proofs.Judged.{write_judged, write_whole}
+use Rattle.std.proofs.Common.{Ok, rules}
+use Rattle.request.specs.Readings.{held, held_random_write}
+use Rattle.request.proofs.Judged.{as_held, write_judged, write_whole}
 use Rattle.request.proofs.random.write_random.Goals as goal
+
+pub returns-in_err-words : goal.returns-in_err-words
+returns-in_err-words g c =
+    let code = g.C.WireCode.which in
+    let m = g.M.ReadableMemory.means c.args.memory.now in
+    let h = as_held code (write_judged code m c.args.frame.now c.args.at) (write_whole code m c.args.frame.now c.args.at) (held c.from_residual.result) (search rules) in
+    record { value = h.0; whole = h.1; stands = search rules }
 
 pub returns : goal.returns
 returns g c =
     let code = g.C.WireCode.which in
-    let s = c.args.memory.now in
-    let m = g.M.ReadableMemory.means s in
-    record {
-      value = ap (asked code) c.hold_write.ensures.value ∙ write_judged code m c.args.frame.now c.args.at;
-      whole = subst (λ r. IfOk r (Whole code)) (sym c.hold_write.ensures.value) (write_whole code m c.args.frame.now c.args.at);
-      stands = c.hold_write.ensures.stands;
-    }
+    let m = g.M.ReadableMemory.means c.args.memory.now in
+    let r = Ok (held_random_write c.in_ok-words.words c.in_ok-words.doubles c.part_from.result.now c.in_ok-words.place) in
+    let h = as_held code (write_judged code m c.args.frame.now c.args.at) (write_whole code m c.args.frame.now c.args.at) r (search rules) in
+    record { value = h.0; whole = h.1; stands = search rules }

@@ -1,15 +1,11 @@
-use Rattle.std.proofs.Common.{sym, ◌∙◌, arith}
-use Rattle.request.proofs.Opens.{closes, stays}
+use Rattle.std.proofs.Common.{◌+◌, refl, ◌∙◌, arith, rules, tests}
+use Rattle.std.proofs.lemmas.Iterator.{YieldsList-from_range}
+use Rattle.std.proofs.lemmas.Iterator.Search.{all_from_yields_List}
+use Rattle.request.proofs.Opens.{all_open_from}
 use Rattle.request.proofs.spans.all_open.Goals as goal
 
-pub returns-then-not-is_open : goal.returns-then-not-is_open
-returns-then-not-is_open g c =
-    let s = c.args.memory.now in
-    let m = g.M.ReadableMemory.means s in
-    sym (sym c.loop-i.invariant ∙ closes m c.args.device c.args.number c.args.points c.loop-i.i (omega arith) (sym c.is_open.ensures ∙ c.if-not-is_open.true))
-
-pub loop-i-preserved : goal.loop-i-preserved
-loop-i-preserved g c =
-    let s = c.args.memory.now in
-    let m = g.M.ReadableMemory.means s in
-    stays m c.args.device c.args.number c.args.points c.loop-i.i (omega arith) (sym c.is_open.ensures ∙ c.if-not-is_open.false) ∙ c.loop-i.invariant
+pub returns : goal.returns
+returns g c =
+    let m = g.M.ReadableMemory.means c.args.memory.now in
+    all_from_yields_List (λ k. m.opened c.args.device (c.args.number + k)) _ _ _ c.all.ensures.ran (YieldsList-from_range 0 c.args.points c.args.points refl (omega arith)) (λ x b q k. search (rules, tests))
+    ∙ all_open_from m c.args.device c.args.number 0 c.args.points c.args.number (omega arith)
