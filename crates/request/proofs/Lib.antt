@@ -9,3 +9,4 @@ pub mod Written
 pub mod Alike
 pub mod Past
 pub mod Accepted
+pub mod Rows

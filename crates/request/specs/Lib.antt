@@ -3,6 +3,7 @@ pub mod Walks
 pub mod Limits
 pub mod Requests
 pub mod Entries
+pub mod Rows
 pub mod Readings
 pub mod Lists
 pub mod Verdicts

@@ -1,9 +1,10 @@
 // Batches: so many points or words from one number on.
 ghost use Rattle.std.specs.Prelude.{◌≡◌, ◌+◌, ◌*◌, ◌^◌, ◌<◌, ◌≤◌, length, drop, IfOk, OnOk};
-ghost use Rattle.wire.specs.Numbers.{number_in};
+ghost use Rattle.wire.specs.Numbers.{per_byte, number_in};
 ghost use Rattle.wire.specs.Points.{bits_size, half_in};
 ghost use Rattle.request.specs.Fields.{placed, value_at, half_at, list_end, list_in, bits_in};
 ghost use Rattle.request.specs.Limits.{all_bits};
+ghost use Rattle.request.specs.Rows.{bit_row, word_row};
 ghost use Rattle.request.specs.Requests.{ReadBits, ReadWords, WriteBits, WriteWords, judged};
 ghost use Rattle.request.specs.Readings.{held, said, Whole, Stands};
 
@@ -11,21 +12,20 @@ use crate::entries::bit_at;
 use crate::fields;
 use crate::spans::{open, points_of, within};
 use crate::types::Request;
-use device::Kind;
+use device::{Device, Kind};
 use frame::{Cause, Fault};
 use memory::{ReadableMemory, WritableMemory};
 use wire::WireCode;
 
-// 0401 with 0001: a batch of bits to read.
-pub(crate) fn read_bits<'a, C: WireCode, M: ReadableMemory>(
+// The row of a batch in bits: the device, the first number, how many points, and where what follows them begins.
+fn bit_row<C: WireCode, M: ReadableMemory>(
     memory: &M,
-    frame: &'a [u8],
+    frame: &[u8],
     at: usize,
-) -> Result<Request<'a>, Fault>
+) -> Result<(Device, u32, usize, usize), Fault>
     requires { at ≤ length frame.now }
-    ensures value { said C.WireCode.which result ≡ judged C.WireCode.which (M.ReadableMemory.means memory.now) ReadBits frame.now at }
-    ensures whole { IfOk (held result) (Whole C.WireCode.which) }
-    ensures stands { IfOk (held result) (Stands C.WireCode.which frame.now at) }
+    ensures value { result ≡ bit_row C.WireCode.which (M.ReadableMemory.means memory.now) frame.now at }
+    ensures few { IfOk result (λ r. (r.1 < 2 ^ 24) × (r.2 ≤ 3584) × (r.3 ≤ length frame.now) × (r.3 ≡ at + 6 * per_byte C.WireCode.which)) }
 {
     let (device, number, used) = fields::device::<C>(frame, at)?;
     if device.kind() != Kind::Bit {
@@ -38,7 +38,43 @@ pub(crate) fn read_bits<'a, C: WireCode, M: ReadableMemory>(
     }
     let points = points as usize;
     within(memory, device, number, points, at)?;
-    fields::ended(frame, points_at + used)?;
+    Ok((device, number, points, points_at + used))
+}
+
+// The row of a batch in words: the device, the first number, how many words, and where what follows them begins.
+fn word_row<C: WireCode, M: ReadableMemory>(
+    memory: &M,
+    frame: &[u8],
+    at: usize,
+) -> Result<(Device, u32, usize, usize), Fault>
+    requires { at ≤ length frame.now }
+    ensures value { result ≡ word_row C.WireCode.which (M.ReadableMemory.means memory.now) frame.now at }
+    ensures few { IfOk result (λ r. (r.1 < 2 ^ 24) × (r.2 ≤ 960) × (r.3 ≤ length frame.now) × (r.3 ≡ at + 6 * per_byte C.WireCode.which)) }
+{
+    let (device, number, used) = fields::device::<C>(frame, at)?;
+    let points_at = at + used;
+    let (points, used) = fields::number::<C>(frame, points_at, 2)?;
+    if points < 1 || points > 960 {
+        return Err(Cause::WordCount.at(points_at));
+    }
+    let words = points as usize;
+    within(memory, device, number, points_of(device.kind(), words), at)?;
+    Ok((device, number, words, points_at + used))
+}
+
+// 0401 with 0001: a batch of bits to read.
+pub(crate) fn read_bits<'a, C: WireCode, M: ReadableMemory>(
+    memory: &M,
+    frame: &'a [u8],
+    at: usize,
+) -> Result<Request<'a>, Fault>
+    requires { at ≤ length frame.now }
+    ensures value { said C.WireCode.which result ≡ judged C.WireCode.which (M.ReadableMemory.means memory.now) ReadBits frame.now at }
+    ensures whole { IfOk (held result) (Whole C.WireCode.which) }
+    ensures stands { IfOk (held result) (Stands C.WireCode.which frame.now at) }
+{
+    let (device, number, points, end) = bit_row::<C, M>(memory, frame, at)?;
+    fields::ended(frame, end)?;
     Ok(Request::ReadBits {
         device,
         number,
@@ -57,19 +93,12 @@ pub(crate) fn read_words<'a, C: WireCode, M: ReadableMemory>(
     ensures whole { IfOk (held result) (Whole C.WireCode.which) }
     ensures stands { IfOk (held result) (Stands C.WireCode.which frame.now at) }
 {
-    let (device, number, used) = fields::device::<C>(frame, at)?;
-    let points_at = at + used;
-    let (points, used) = fields::number::<C>(frame, points_at, 2)?;
-    if points < 1 || points > 960 {
-        return Err(Cause::WordCount.at(points_at));
-    }
-    let words = points as usize;
-    within(memory, device, number, points_of(device.kind(), words), at)?;
-    fields::ended(frame, points_at + used)?;
+    let (device, number, points, end) = word_row::<C, M>(memory, frame, at)?;
+    fields::ended(frame, end)?;
     Ok(Request::ReadWords {
         device,
         number,
-        points: words,
+        points,
     })
 }
 
@@ -93,16 +122,8 @@ pub(crate) fn write_words<'a, C: WireCode, M: WritableMemory>(
     ensures whole { IfOk (held result) (Whole C.WireCode.which) }
     ensures stands { IfOk (held result) (Stands C.WireCode.which frame.now at) }
 {
-    let (device, number, used) = fields::device::<C>(frame, at)?;
-    let points_at = at + used;
-    let (points, used) = fields::number::<C>(frame, points_at, 2)?;
-    if points < 1 || points > 960 {
-        return Err(Cause::WordCount.at(points_at));
-    }
-    let words = points as usize;
-    within(memory, device, number, points_of(device.kind(), words), at)?;
+    let (device, number, words, place) = word_row::<C, M>(memory, frame, at)?;
     open(memory, device, number, points_of(device.kind(), words), at)?;
-    let place = points_at + used;
     let used = fields::present(frame, place, words * C::field_size(2))?;
     let _ = check_words::<C>(frame, place, words)?;
     fields::ended(frame, place + used)?;
@@ -154,19 +175,8 @@ pub(crate) fn write_bits<'a, C: WireCode, M: WritableMemory>(
     ensures whole { IfOk (held result) (Whole C.WireCode.which) }
     ensures stands { IfOk (held result) (Stands C.WireCode.which frame.now at) }
 {
-    let (device, number, used) = fields::device::<C>(frame, at)?;
-    if device.kind() != Kind::Bit {
-        return Err(Cause::WrongKind.at(at));
-    }
-    let points_at = at + used;
-    let (points, used) = fields::number::<C>(frame, points_at, 2)?;
-    if points < 1 || points > 3584 {
-        return Err(Cause::BitCount.at(points_at));
-    }
-    let points = points as usize;
-    within(memory, device, number, points, at)?;
+    let (device, number, points, place) = bit_row::<C, M>(memory, frame, at)?;
     open(memory, device, number, points, at)?;
-    let place = points_at + used;
     let used = fields::present(frame, place, C::bits_size(points))?;
     let data = fields::part_from(frame, place);
     let _ = check_bits::<C>(data, place, points)?;

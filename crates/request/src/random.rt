@@ -3,6 +3,7 @@ ghost use Rattle.std.specs.Prelude.{◌≡◌, ℕ, ◌+◌, ◌*◌, ◌^◌, �
 ghost use Rattle.wire.specs.Numbers.{per_byte};
 ghost use Rattle.frame.specs.declared.fault.Fault.{Fault};
 ghost use Rattle.request.specs.Fields.{Reads, ReadsWithin};
+ghost use Rattle.request.specs.Limits.{random_ok, random_write_ok};
 ghost use Rattle.request.specs.Requests.{RandomRead, RandomWrite, RandomBits, judged};
 ghost use Rattle.request.specs.Requests.{Register as Registering};
 ghost use Rattle.request.specs.Entries.{access_at, setting_at, bit_setting_at};
@@ -101,6 +102,22 @@ fn two_lists<
     Ok((words, doubles, place))
 }
 
+// Whether a random read, or a registration, may have so many words and double words.
+fn random_fits(words: usize, doubles: usize) -> bool
+    requires { (words < 256) × (doubles < 256) }
+    ensures { result ≡ random_ok words doubles }
+{
+    (1..=192).contains(&(words + doubles))
+}
+
+// Whether a random write may have so many words and double words.
+fn write_fits(words: usize, doubles: usize) -> bool
+    requires { (words < 256) × (doubles < 256) }
+    ensures { result ≡ random_write_ok words doubles }
+{
+    (1..=1920).contains(&(12 * words + 14 * doubles))
+}
+
 // Tests the lists of a random read or a registration: the counts, and where the lists begin.
 fn random_list<C: WireCode, M: ReadableMemory>(
     memory: &M,
@@ -114,7 +131,7 @@ fn random_list<C: WireCode, M: ReadableMemory>(
     two_lists::<C, _, _, _, _>(
         frame,
         at,
-        |words, doubles| (1..=192).contains(&(words + doubles)),
+        random_fits,
         |at| access::<C, M>(memory, frame, at, 1),
         |at| access::<C, M>(memory, frame, at, 2),
     )
@@ -133,7 +150,7 @@ fn write_list<C: WireCode, M: WritableMemory>(
     two_lists::<C, _, _, _, _>(
         frame,
         at,
-        |words, doubles| (1..=1920).contains(&(12 * words + 14 * doubles)),
+        write_fits,
         |at| setting::<C, M>(memory, frame, at, 1),
         |at| setting::<C, M>(memory, frame, at, 2),
     )
