@@ -33,7 +33,7 @@ fn bit_row<C: WireCode, M: ReadableMemory>(
     }
     let points_at = at + used;
     let (points, used) = fields::number::<C>(frame, points_at, 2)?;
-    if points < 1 || points > 3584 {
+    if !(1..=3584).contains(&points) {
         return Err(Cause::BitCount.at(points_at));
     }
     let points = points as usize;
@@ -54,7 +54,7 @@ fn word_row<C: WireCode, M: ReadableMemory>(
     let (device, number, used) = fields::device::<C>(frame, at)?;
     let points_at = at + used;
     let (points, used) = fields::number::<C>(frame, points_at, 2)?;
-    if points < 1 || points > 960 {
+    if !(1..=960).contains(&points) {
         return Err(Cause::WordCount.at(points_at));
     }
     let words = points as usize;

@@ -167,7 +167,7 @@ fn bits_list<C: WireCode, M: WritableMemory>(
     ensures within { IfOk result (λ a. (a.1 ≤ length frame.now) × (a.1 ≡ at + 1 * per_byte C.WireCode.which)) }
 {
     let (count, used) = fields::number::<C>(frame, at, 1)?;
-    if count < 1 || count > 188 {
+    if !(1..=188).contains(&count) {
         return Err(Cause::RandomBitCount.at(at));
     }
     let count = count as usize;
