@@ -9,4 +9,3 @@ pub mod Written
 pub mod Alike
 pub mod Past
 pub mod Accepted
-pub mod Rows

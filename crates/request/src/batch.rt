@@ -1,10 +1,10 @@
 // Batches: so many points or words from one number on.
-ghost use Rattle.std.specs.Prelude.{◌≡◌, ◌+◌, ◌*◌, ◌^◌, ◌<◌, ◌≤◌, length, drop, IfOk, OnOk};
-ghost use Rattle.wire.specs.Numbers.{per_byte, number_in};
+ghost use Rattle.std.specs.Prelude.{◌≡◌, ◌+◌, ◌*◌, ◌^◌, ◌<◌, ◌≤◌, length, drop, IfOk, IfErr, OnOk, Err};
+ghost use Rattle.wire.specs.Numbers.{number_in};
 ghost use Rattle.wire.specs.Points.{bits_size, half_in};
 ghost use Rattle.request.specs.Fields.{placed, value_at, half_at, list_end, list_in, bits_in};
 ghost use Rattle.request.specs.Limits.{all_bits};
-ghost use Rattle.request.specs.Rows.{bit_row, word_row};
+ghost use Rattle.request.specs.Rows.{IsBitRow, IsWordRow};
 ghost use Rattle.request.specs.Requests.{ReadBits, ReadWords, WriteBits, WriteWords, judged};
 ghost use Rattle.request.specs.Readings.{held, said, Whole, Stands};
 
@@ -24,8 +24,9 @@ fn bit_row<C: WireCode, M: ReadableMemory>(
     at: usize,
 ) -> Result<(Device, u32, usize, usize), Fault>
     requires { at ≤ length frame.now }
-    ensures value { result ≡ bit_row C.WireCode.which (M.ReadableMemory.means memory.now) frame.now at }
-    ensures few { IfOk result (λ r. (r.1 < 2 ^ 24) × (r.2 ≤ 3584) × (r.3 ≤ length frame.now) × (r.3 ≡ at + 6 * per_byte C.WireCode.which)) }
+    ensures row { IfOk result (IsBitRow C.WireCode.which (M.ReadableMemory.means memory.now) frame.now at) }
+    ensures few { IfOk result (λ r. (r.1 < 2 ^ 24) × (r.2 ≤ 3584) × (r.3 ≤ length frame.now)) }
+    ensures declined { IfErr result (λ e. (judged C.WireCode.which (M.ReadableMemory.means memory.now) ReadBits frame.now at ≡ Err e) × (judged C.WireCode.which (M.ReadableMemory.means memory.now) WriteBits frame.now at ≡ Err e)) }
 {
     let (device, number, used) = fields::device::<C>(frame, at)?;
     if device.kind() != Kind::Bit {
@@ -48,8 +49,9 @@ fn word_row<C: WireCode, M: ReadableMemory>(
     at: usize,
 ) -> Result<(Device, u32, usize, usize), Fault>
     requires { at ≤ length frame.now }
-    ensures value { result ≡ word_row C.WireCode.which (M.ReadableMemory.means memory.now) frame.now at }
-    ensures few { IfOk result (λ r. (r.1 < 2 ^ 24) × (r.2 ≤ 960) × (r.3 ≤ length frame.now) × (r.3 ≡ at + 6 * per_byte C.WireCode.which)) }
+    ensures row { IfOk result (IsWordRow C.WireCode.which (M.ReadableMemory.means memory.now) frame.now at) }
+    ensures few { IfOk result (λ r. (r.1 < 2 ^ 24) × (r.2 ≤ 960) × (r.3 ≤ length frame.now)) }
+    ensures declined { IfErr result (λ e. (judged C.WireCode.which (M.ReadableMemory.means memory.now) ReadWords frame.now at ≡ Err e) × (judged C.WireCode.which (M.ReadableMemory.means memory.now) WriteWords frame.now at ≡ Err e)) }
 {
     let (device, number, used) = fields::device::<C>(frame, at)?;
     let points_at = at + used;

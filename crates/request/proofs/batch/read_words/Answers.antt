@@ -1,9 +1,0 @@
-use Rattle.std.proofs.Common.{rules}
-use Rattle.request.proofs.Rows.{by, read_words_by_row}
-use Rattle.request.proofs.batch.read_words.Goals as goal
-
-pub returns-in_err-device-clause-value : goal.returns-in_err-device-clause-value
-returns-in_err-device-clause-value g c = by (read_words_by_row g.C.WireCode.which (g.M.ReadableMemory.means c.args.memory.now) c.args.frame.now c.args.at) (search rules)
-
-pub returns-clause-value : goal.returns-clause-value
-returns-clause-value g c = by (read_words_by_row g.C.WireCode.which (g.M.ReadableMemory.means c.args.memory.now) c.args.frame.now c.args.at) (search rules)
