@@ -24,13 +24,18 @@ one_of count i k h =
     let one : count - i ≡ 1 + (count - (i + 1)) = omega arith in
     ap (λ n. n * k) one ∙ add-mul 1 (count - (i + 1)) k ∙ ap (λ n. n + (count - (i + 1)) * k) (omega arith)
 
+-- one step more from a number
+pub step_on : (n i p : ℕ) → n + (i + 1) * p ≡ n + i * p + p
+step_on n i p = ap (λ k. n + k) (add-mul i 1 p) ∙ omega arith
+
 module _ (code : Code) (V : Values) (d : Device) where
-  pub words_turn : (out : List ℕ) (place next count i : ℕ) → i < count
-      → sets (sets out place (encode code 2 (word V d next))) (place + 2 * per_byte code) (values_bytes code 2 (words V d (next + points (kind_of d) 1) (count - (i + 1))))
-      ≡ sets out place (values_bytes code 2 (words V d next (count - i)))
-  words_turn out place next count i h =
+  pub words_turn : (out : List ℕ) (place n count i : ℕ) → i < count
+      → sets (sets out place (encode code 2 (word V d (n + i * points (kind_of d) 1)))) (place + 2 * per_byte code) (values_bytes code 2 (words V d (n + (i + 1) * points (kind_of d) 1) (count - (i + 1))))
+      ≡ sets out place (values_bytes code 2 (words V d (n + i * points (kind_of d) 1) (count - i)))
+  words_turn out place n count i h =
+      let at = n + i * points (kind_of d) 1 in
       let one : count - i ≡ count - (i + 1) + 1 = omega arith in
-      rw (one, add-one (count - (i + 1))) (sets_sets out place (2 * per_byte code) (encode code 2 (word V d next)) _ (length_encode code 2 (word V d next)))
+      rw (one, add-one (count - (i + 1)), step_on n i (points (kind_of d) 1)) (sets_sets out place (2 * per_byte code) (encode code 2 (word V d at)) _ (length_encode code 2 (word V d at)))
 
   two_more : (a b : ℕ) (vs : List ℕ) → bits_bytes code (a ∷ b ∷ []) ++ bits_bytes code vs ≡ bits_bytes code (a ∷ b ∷ vs)
   two_more a b vs = go code
@@ -46,17 +51,18 @@ module _ (code : Code) (V : Values) (d : Device) where
       go Binary = refl
       go Ascii = refl
 
-  pub bits_turn : (out : List ℕ) (place next count i : ℕ) → i < count / 2
-      → sets (sets out place (bits_bytes code (V d next ∷ V d (next + 1) ∷ []))) (place + bits_size code 2) (bits_bytes code (bits V d (next + 2) (count - 2 * (i + 1))))
-      ≡ sets out place (bits_bytes code (bits V d next (count - 2 * i)))
-  bits_turn out place next count i h =
+  pub bits_turn : (out : List ℕ) (place n count i : ℕ) → i < count / 2
+      → sets (sets out place (bits_bytes code (V d (n + 2 * i) ∷ V d (n + 2 * i + 1) ∷ []))) (place + bits_size code 2) (bits_bytes code (bits V d (n + 2 * (i + 1)) (count - 2 * (i + 1))))
+      ≡ sets out place (bits_bytes code (bits V d (n + 2 * i) (count - 2 * i)))
+  bits_turn out place n count i h =
+      let next = n + 2 * i in
       let two : count - 2 * i ≡ count - 2 * (i + 1) + 1 + 1 = omega arith in
-      let on : next + 1 + 1 ≡ next + 2 = omega arith in
-      let tail : bits V d next (count - 2 * i) ≡ V d next ∷ V d (next + 1) ∷ bits V d (next + 2) (count - 2 * (i + 1)) =
+      let on : next + 1 + 1 ≡ n + 2 * (i + 1) = omega arith in
+      let tail : bits V d next (count - 2 * i) ≡ V d next ∷ V d (next + 1) ∷ bits V d (n + 2 * (i + 1)) (count - 2 * (i + 1)) =
       rw (two, add-one (count - 2 * (i + 1) + 1), add-one (count - 2 * (i + 1)), on) in
       sets_sets out place (bits_size code 2) (bits_bytes code (V d next ∷ V d (next + 1) ∷ [])) _ (two_long (V d next) (V d (next + 1)))
       ∙ ap (sets out place)
-      (two_more (V d next) (V d (next + 1)) (bits V d (next + 2) (count - 2 * (i + 1)))
+      (two_more (V d next) (V d (next + 1)) (bits V d (n + 2 * (i + 1)) (count - 2 * (i + 1)))
       ∙ ap (bits_bytes code) (sym tail))
 
   pub bits_left : (count i : ℕ) → i < count / 2 → bits_size code (count - 2 * i) ≡ bits_size code 2 + bits_size code (count - 2 * (i + 1))

@@ -15,15 +15,16 @@ use Rattle.server.specs.Writes.{Write, tried, AllTaken}
 use Rattle.server.specs.Serves.{Tells, Came, finished, wrote}
 use Rattle.server.proofs.Trying.{all_made}
 
-pub told : (code : Code) (h : Header) (end n at long : ℕ) (met : Option Fault) (bytes r₀ r₁ r₂ : List ℕ)
-    → length bytes ≡ n → at ≡ head_size h.form * per_byte code → long ≡ at + n
+pub told : (code : Code) (h : Header) (end n at : ℕ) (met : Option Fault) (bytes r₀ r₁ r₂ : List ℕ) (answer : Answer)
+    → answer.taken ≡ h.size → answer.length ≡ at + n → answer.fault ≡ met
+    → length bytes ≡ n → at ≡ head_size h.form * per_byte code
     → r₁ ≡ sets r₀ 0 (head_bytes code h n end) → r₂ ≡ sets r₁ at bytes
-    → Tells h.size (reply_bytes code h end bytes) met (record { taken = h.size; length = long; fault = met }) r₀ r₂
-told code h end n at long met bytes r₀ r₁ r₂ e a l p q =
+    → Tells h.size (reply_bytes code h end bytes) met answer r₀ r₂
+told code h end n at met bytes r₀ r₁ r₂ answer t l f e a p q =
     record {
-      takes = refl;
+      takes = t;
       long = l ∙ sym (length-append (head_bytes code h (length bytes) end) bytes ∙ (λ i. (length_head code h (length bytes) end ∙ sym a) i + e i));
-      meets = refl;
+      meets = f;
       reply = q ∙ ap (λ r. sets r at bytes) p ∙ head_then_data code h end n at bytes r₀ e a;
     }
 

@@ -6,7 +6,7 @@ use Rattle.device.specs.declared.types.Kind.TheVariants.{Bit, Word as Whole}
 use Rattle.device.specs.Devices.{kind_of}
 use Rattle.request.specs.Limits.{points}
 use Rattle.server.specs.declared.points.Width.{Width}
-use Rattle.server.specs.declared.points.Width.TheVariants.{Word, Double}
+use Rattle.server.specs.declared.points.Width.TheVariants.{Point, Word, Double}
 
 -- the value of each point
 abbrev pub Values : Type 0
@@ -41,11 +41,13 @@ double V d n = word V d n + 65536 * word V d (n + points (kind_of d) 1)
 
 -- how many bytes the value of an access has
 abbrev pub bytes_of : Width → ℕ
+bytes_of Point = 1
 bytes_of Word = 2
 bytes_of Double = 4
 
 -- the value of an access
 abbrev pub value_of : Width → Values → Device → ℕ → ℕ
+value_of Point V d n = V d n
 value_of Word V d n = word V d n
 value_of Double V d n = double V d n
 

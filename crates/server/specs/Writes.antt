@@ -7,8 +7,8 @@ use Rattle.device.specs.Devices.{kind_of}
 use Rattle.memory.specs.Meaning.{Meaning, put, write_answer, written}
 use Rattle.request.specs.Limits.{points}
 use Rattle.request.specs.Requests.{Setting}
-use Rattle.server.specs.declared.storing.Reach.{Reach}
-use Rattle.server.specs.declared.storing.Reach.TheVariants.{Point, Word, Double}
+use Rattle.server.specs.declared.points.Width.{Width}
+use Rattle.server.specs.declared.points.Width.TheVariants.{Point, Word, Double}
 use Rattle.server.specs.Points.{Values}
 
 -- a device, a number and the value that the point is given
@@ -70,14 +70,8 @@ abbrev pub each : (Device → ℕ → ℕ → List Write) → List Setting → L
 each f [] = []
 each f (s ∷ ss) = f s.0.0 s.0.1 s.1 ++ each f ss
 
--- how many bytes the value of a setting has
-abbrev pub size_of : Reach → ℕ
-size_of Point = 1
-size_of Word = 2
-size_of Double = 4
-
 -- what a setting writes
-abbrev pub as_reach : Reach → Device → ℕ → ℕ → List Write
-as_reach Point d n v = as_point d n v
-as_reach Word d n v = as_word d n v
-as_reach Double d n v = as_double d n v
+abbrev pub as_width : Width → Device → ℕ → ℕ → List Write
+as_width Point d n v = as_point d n v
+as_width Word d n v = as_word d n v
+as_width Double d n v = as_double d n v

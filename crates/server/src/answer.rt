@@ -23,6 +23,21 @@ pub struct Answer {
     pub fault: Option<Fault>,
 }
 
+impl Answer {
+    // The answer to a frame that was taken whole and met no fault, with a reply of this length.
+    fn accepted(header: Header, length: usize) -> Answer
+        ensures taken { result.taken ≡ header.size }
+        ensures length { result.length ≡ length }
+        ensures fault { result.fault ≡ None }
+    {
+        Answer {
+            taken: header.size,
+            length,
+            fault: None,
+        }
+    }
+}
+
 // The error reply.
 pub(crate) fn refuse<C: WireCode>(reply: &mut [u8], header: Header, fault: Fault) -> Answer
     requires { 4096 ≤ length reply.old }
@@ -54,11 +69,7 @@ pub(crate) fn show_words<C: WireCode, M: ReadableMemory>(
     let size = points * C::field_size(2);
     let at = write_head::<C>(reply, header, size, 0);
     write_words::<C, M>(reply, at, memory, device, number, points);
-    Answer {
-        taken: header.size,
-        length: at + size,
-        fault: None,
-    }
+    Answer::accepted(header, at + size)
 }
 
 // The reply to a batch read in bits.
@@ -77,11 +88,7 @@ pub(crate) fn show_bits<C: WireCode, M: ReadableMemory>(
     let size = C::bits_size(points);
     let at = write_head::<C>(reply, header, size, 0);
     write_bits::<C, M>(reply, at, memory, device, number, points);
-    Answer {
-        taken: header.size,
-        length: at + size,
-        fault: None,
-    }
+    Answer::accepted(header, at + size)
 }
 
 // The reply to a request that was carried out and has no data to show.
@@ -91,11 +98,7 @@ pub(crate) fn accept<C: WireCode>(reply: &mut [u8], header: Header) -> Answer
     ensures fits { result.length ≤ length reply.old }
 {
     let at = write_head::<C>(reply, header, 0, 0);
-    Answer {
-        taken: header.size,
-        length: at,
-        fault: None,
-    }
+    Answer::accepted(header, at)
 }
 
 // The reply that shows a list of accesses.
@@ -115,11 +118,7 @@ pub(crate) fn show_listed<C: WireCode, M: ReadableMemory>(
     let at = write_head::<C>(reply, header, size, 0);
     let at_doubles = write_accesses::<C, M>(reply, at, memory, words, Width::Word);
     let length = write_accesses::<C, M>(reply, at_doubles, memory, doubles, Width::Double);
-    Answer {
-        taken: header.size,
-        length,
-        fault: None,
-    }
+    Answer::accepted(header, length)
 }
 
 // The reply to a monitor request: the registered list, or that there is none.

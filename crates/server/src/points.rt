@@ -12,12 +12,9 @@ use memory::ReadableMemory;
 pub(crate) fn value_at<M: ReadableMemory>(memory: &M, device: Device, number: usize) -> u16
     ensures { result ≡ (M.ReadableMemory.means memory.now).value device number }
 {
-    if number >= 65536 * 65536 {
-        return 0;
-    }
-    match memory.read(device, number as u32) {
-        Some(value) => value,
-        None => 0,
+    match u32::try_from(number) {
+        Ok(number) => memory.read(device, number).unwrap_or(0),
+        Err(_) => 0,
     }
 }
 
@@ -68,16 +65,17 @@ fn double_at<M: ReadableMemory>(memory: &M, device: Device, number: usize) -> u3
     requires { number < 2 ^ 32 }
     ensures { result ≡ double (M.ReadableMemory.means memory.now).value device number }
 {
-    let low = word_at(memory, device, number) as u32;
-    let high = word_at(memory, device, number + word_points(device)) as u32;
+    let low = u32::from(word_at(memory, device, number));
+    let high = u32::from(word_at(memory, device, number + word_points(device)));
     low + 65536 * high
 }
 
-// How much an access of a list covers.
+// How much an access of a list covers: as many bytes as its value has.
 #[derive(Clone, Copy, PartialEq, Eq, Debug)]
 pub enum Width {
-    Word,
-    Double,
+    Point = 1,
+    Word = 2,
+    Double = 4,
 }
 
 impl Width {
@@ -86,10 +84,7 @@ impl Width {
         ensures value { result ≡ bytes_of self }
         ensures few { result ≤ 4 }
     {
-        match self {
-            Width::Word => 2,
-            Width::Double => 4,
-        }
+        self as usize
     }
 }
 
@@ -103,7 +98,8 @@ pub(crate) fn access_value<M: ReadableMemory>(
     ensures { result ≡ value_of width (M.ReadableMemory.means memory.now).value device number }
 {
     match width {
-        Width::Word => word_at(memory, device, number as usize) as u32,
+        Width::Point => u32::from(value_at(memory, device, number as usize)),
+        Width::Word => u32::from(word_at(memory, device, number as usize)),
         Width::Double => double_at(memory, device, number as usize),
     }
 }

@@ -50,7 +50,7 @@ fn carry_out<C: WireCode, M: WritableMemory>(
             number,
             points,
             data,
-            place: _,
+            ..
         } => {
             put_bits::<C, M>(memory, device, number, points, data);
             accept::<C>(reply, header)
@@ -60,7 +60,7 @@ fn carry_out<C: WireCode, M: WritableMemory>(
             number,
             points,
             data,
-            place: _,
+            ..
         } => {
             put_words::<C, M>(memory, device, number, points, data);
             accept::<C>(reply, header)
@@ -69,23 +69,19 @@ fn carry_out<C: WireCode, M: WritableMemory>(
             words,
             doubles,
             list,
-            place: _,
+            ..
         } => show_listed::<C, M>(reply, header, memory, &listed::<C>(list, words, doubles)),
         Request::Register {
             words,
             doubles,
             list,
-            place: _,
+            ..
         } => {
             *registration = listed::<C>(list, words, doubles);
             accept::<C>(reply, header)
         }
         Request::Monitor => show_registered::<C, M>(reply, header, memory, registration),
-        Request::WriteRandomBits {
-            count,
-            list,
-            place: _,
-        } => {
+        Request::WriteRandomBits { count, list, .. } => {
             put_random_bits::<C, M>(memory, list, count);
             accept::<C>(reply, header)
         }
@@ -93,7 +89,7 @@ fn carry_out<C: WireCode, M: WritableMemory>(
             words,
             doubles,
             list,
-            place: _,
+            ..
         } => {
             put_random::<C, M>(memory, list, words, doubles);
             accept::<C>(reply, header)
@@ -154,17 +150,14 @@ fn serve<C: WireCode, M: WritableMemory>(
     ensures fits { result.length ≤ length reply.old }
 {
     match read_frame::<C>(frame, reply.len()) {
-        Ok(header) => {
-            let size = header.size;
-            answer_frame::<C, M>(
-                &frame[0..size],
-                reply,
-                header,
-                memory,
-                settings,
-                registration,
-            )
-        }
+        Ok(header) => answer_frame::<C, M>(
+            &frame[..header.size],
+            reply,
+            header,
+            memory,
+            settings,
+            registration,
+        ),
         Err(fault) => Answer {
             taken: 0,
             length: 0,

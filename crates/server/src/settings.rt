@@ -13,8 +13,6 @@ impl Settings {
         ensures was { result ≡ self.old.write_flag }
         ensures flag { self.new.write_flag ≡ write_flag }
     {
-        let was = self.write_flag;
-        self.write_flag = write_flag;
-        was
+        std::mem::replace(&mut self.write_flag, write_flag)
     }
 }

@@ -27,11 +27,11 @@ pub(crate) fn write_words<C: WireCode, M: ReadableMemory>(
     requires { (count ≤ 960) × (at + count * (2 * per_byte C.WireCode.which) ≤ length out.old) }
     ensures { out.new ≡ sets out.old at (values_bytes C.WireCode.which 2 (words (M.ReadableMemory.means memory.now).value device number count)) }
 {
+    let step = word_points(device);
     let mut place = at;
-    let mut next = number as usize;
     for i in 0..count {
-        place += C::write_number(out, place, 2, word_at(memory, device, next) as u32);
-        next += word_points(device);
+        let word = word_at(memory, device, number as usize + i * step);
+        place += C::write_number(out, place, 2, u32::from(word));
     }
 }
 
@@ -47,19 +47,15 @@ pub(crate) fn write_bits<C: WireCode, M: ReadableMemory>(
     requires { (count ≤ 3584) × ((kind_of device ≡ Bit) × (at + bits_size C.WireCode.which count ≤ length out.old)) }
     ensures { out.new ≡ sets out.old at (bits_bytes C.WireCode.which (bits (M.ReadableMemory.means memory.now).value device number count)) }
 {
+    let first = number as usize;
     let mut place = at;
-    let mut next = number as usize;
     for i in 0..count / 2 {
-        place += C::write_two_bits(
-            out,
-            place,
-            value_at(memory, device, next),
-            value_at(memory, device, next + 1),
-        );
-        next += 2;
+        let one = value_at(memory, device, first + 2 * i);
+        let other = value_at(memory, device, first + 2 * i + 1);
+        place += C::write_two_bits(out, place, one, other);
     }
     if count % 2 == 1 {
-        C::write_last_bit(out, place, value_at(memory, device, next));
+        C::write_last_bit(out, place, value_at(memory, device, first + count - 1));
     }
 }
 

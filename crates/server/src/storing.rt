@@ -4,34 +4,14 @@ ghost use Rattle.wire.specs.Numbers.{per_byte, number_in};
 ghost use Rattle.request.specs.Entries.{setting_in};
 ghost use Rattle.request.specs.Writing.{Each};
 ghost use Rattle.request.specs.Fields.{list_in, bits_in};
-ghost use Rattle.server.specs.Writes.{tried, as_point, spread, as_word, as_double, in_row, as_words, each, size_of, as_reach};
+ghost use Rattle.server.specs.Points.{bytes_of};
+ghost use Rattle.server.specs.Writes.{tried, as_point, spread, as_word, as_double, in_row, as_words, each, as_width};
 
-use crate::points::word_points;
+use crate::points::{Width, word_points};
 use device::{Device, Kind};
 use memory::{ReadableMemory, WritableMemory};
-use request::{bit_at, setting_at};
-use wire::{WireCode, number_at};
-
-// What one setting of a list reaches, and so how many bytes its value has: 1, 2 or 4.
-#[derive(Clone, Copy, PartialEq, Eq, Debug)]
-pub(crate) enum Reach {
-    Point,
-    Word,
-    Double,
-}
-
-impl Reach {
-    fn size(self) -> usize
-        ensures value { result ≡ size_of self }
-        ensures few { result ≤ 4 }
-    {
-        match self {
-            Reach::Point => 1,
-            Reach::Word => 2,
-            Reach::Double => 4,
-        }
-    }
-}
+use request::{bit_at, setting_at, word_at};
+use wire::WireCode;
 
 // Gives a point a value; a memory that refuses stays as it is.
 pub(crate) fn put_point<M: WritableMemory>(memory: &mut M, device: Device, number: u32, value: u16)
@@ -111,17 +91,14 @@ pub(crate) fn put_words<C: WireCode, M: WritableMemory>(
     ensures keeps { M.ReadableMemory.keeps memory.old memory.new }
     ensures small { Each (λ v. v < 65536) (list_in (number_in C.WireCode.which 2) count bytes.now) }
 {
+    let step = word_points(device) as u32;
     let mut place = 0;
-    let mut next = number;
     for i in 0..count {
-        match number_at::<C>(bytes, place, 2) {
-            Ok((value, used)) => {
-                put_word(memory, device, next, value as u16);
-                next += word_points(device) as u32;
-                place += used;
-            }
-            Err(_) => return,
-        }
+        let Ok((value, used)) = word_at::<C>(bytes, place) else {
+            return;
+        };
+        put_word(memory, device, number + i as u32 * step, value);
+        place += used;
     }
 }
 
@@ -131,16 +108,16 @@ fn put_access<M: WritableMemory>(
     device: Device,
     number: u32,
     value: u32,
-    reach: Reach,
+    width: Width,
 )
-    requires { (number < 2 ^ 24) × (value < 256 ^ size_of reach) }
-    ensures means { M.ReadableMemory.means memory.new ≡ tried (M.ReadableMemory.means memory.old) (as_reach reach device number value) }
+    requires { (number < 2 ^ 24) × (value < 256 ^ bytes_of width) }
+    ensures means { M.ReadableMemory.means memory.new ≡ tried (M.ReadableMemory.means memory.old) (as_width width device number value) }
     ensures keeps { M.ReadableMemory.keeps memory.old memory.new }
 {
-    match reach {
-        Reach::Point => put_point(memory, device, number, value as u16),
-        Reach::Word => put_word(memory, device, number, value as u16),
-        Reach::Double => put_double(memory, device, number, value),
+    match width {
+        Width::Point => put_point(memory, device, number, value as u16),
+        Width::Word => put_word(memory, device, number, value as u16),
+        Width::Double => put_double(memory, device, number, value),
     }
 }
 
@@ -150,21 +127,20 @@ pub(crate) fn put_settings<C: WireCode, M: WritableMemory>(
     list: &[u8],
     from: usize,
     count: usize,
-    reach: Reach,
+    width: Width,
 )
-    ensures means { M.ReadableMemory.means memory.new ≡ tried (M.ReadableMemory.means memory.old) (each (as_reach reach) (list_in (setting_in C.WireCode.which (size_of reach)) count (drop from list.now))) }
+    ensures means { M.ReadableMemory.means memory.new ≡ tried (M.ReadableMemory.means memory.old) (each (as_width width) (list_in (setting_in C.WireCode.which (bytes_of width)) count (drop from list.now))) }
     ensures keeps { M.ReadableMemory.keeps memory.old memory.new }
-    ensures small { Each (λ s. s.1 < 256 ^ size_of reach) (list_in (setting_in C.WireCode.which (size_of reach)) count (drop from list.now)) }
+    ensures small { Each (λ s. s.1 < 256 ^ bytes_of width) (list_in (setting_in C.WireCode.which (bytes_of width)) count (drop from list.now)) }
 {
     let mut place = from;
-    for i in 0..count {
-        match setting_at::<C>(list, place, reach.size()) {
-            Ok((((device, number), value), used)) => {
-                put_access(memory, device, number, value, reach);
-                place += used;
-            }
-            Err(_) => return,
-        }
+    for _ in 0..count {
+        let Ok((((device, number), value), used)) = setting_at::<C>(list, place, width.bytes())
+        else {
+            return;
+        };
+        put_access(memory, device, number, value, width);
+        place += used;
     }
 }
 
@@ -177,7 +153,7 @@ pub(crate) fn put_random_bits<C: WireCode, M: WritableMemory>(
     ensures means { M.ReadableMemory.means memory.new ≡ tried (M.ReadableMemory.means memory.old) (each as_point (list_in (setting_in C.WireCode.which 1) count list.now)) }
     ensures keeps { M.ReadableMemory.keeps memory.old memory.new }
 {
-    put_settings::<C, M>(memory, list, 0, count, Reach::Point);
+    put_settings::<C, M>(memory, list, 0, count, Width::Point);
 }
 
 // Carries out a random write: so many settings of a word, and then of a double word.
@@ -194,6 +170,6 @@ pub(crate) fn put_random<C: WireCode, M: WritableMemory>(
     ensures doubles { Each (λ s. s.1 < 256 ^ 4) (list_in (setting_in C.WireCode.which 4) doubles (drop (words * (6 * per_byte C.WireCode.which)) list.now)) }
 {
     let behind = words * C::field_size(6);
-    put_settings::<C, M>(memory, list, 0, words, Reach::Word);
-    put_settings::<C, M>(memory, list, behind, doubles, Reach::Double);
+    put_settings::<C, M>(memory, list, 0, words, Width::Word);
+    put_settings::<C, M>(memory, list, behind, doubles, Width::Double);
 }

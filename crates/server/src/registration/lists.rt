@@ -11,20 +11,23 @@ use device::Device;
 use request::access_at;
 use wire::WireCode;
 
-// Puts so many accesses of a list, from a place in it on, into the entries from `at` on.
-fn fill<C: WireCode>(entries: &mut [Access], at: usize, list: &[u8], from: usize, count: usize)
-    requires { at + count ≤ length entries.old }
-    ensures { accesses entries.new ≡ sets (accesses entries.old) at (list_in (access_in C.WireCode.which) count (drop from list.now)) }
+// An entry that holds no access yet.
+const UNUSED: Access = Access {
+    device: Device::M,
+    number: 0,
+};
+
+// Fills entries with the accesses of a list, from a place in it on.
+fn fill<C: WireCode>(entries: &mut [Access], list: &[u8], from: usize)
+    ensures { accesses entries.new ≡ sets (accesses entries.old) 0 (list_in (access_in C.WireCode.which) (length entries.old) (drop from list.now)) }
 {
     let mut place = from;
-    for i in 0..count {
-        match access_at::<C>(list, place) {
-            Ok(((device, number), used)) => {
-                entries[at + i] = Access { device, number };
-                place += used;
-            }
-            Err(_) => return,
-        }
+    for entry in entries {
+        let Ok(((device, number), used)) = access_at::<C>(list, place) else {
+            return;
+        };
+        *entry = Access { device, number };
+        place += used;
     }
 }
 
@@ -34,15 +37,12 @@ pub(crate) fn listed<C: WireCode>(list: &[u8], words: usize, doubles: usize) -> 
     requires whole { (length (list_in (access_in C.WireCode.which) words list.now) ≡ words) × (length (list_in (access_in C.WireCode.which) doubles (drop (words * (4 * per_byte C.WireCode.which)) list.now)) ≡ doubles) }
     ensures { registered result ≡ Some (list_in (access_in C.WireCode.which) words list.now, list_in (access_in C.WireCode.which) doubles (drop (words * (4 * per_byte C.WireCode.which)) list.now)) }
 {
-    let none = Access {
-        device: Device::M,
-        number: 0,
-    };
-    let mut entries = [none; 192];
-    fill::<C>(&mut entries, 0, list, 0, words);
-    fill::<C>(&mut entries, words, list, words * C::field_size(4), doubles);
+    let mut entries = [UNUSED; 192];
+    let count = words + doubles;
+    fill::<C>(&mut entries[..words], list, 0);
+    fill::<C>(&mut entries[words..count], list, words * C::field_size(4));
     Registration {
-        count: Some(words + doubles),
+        count: Some(count),
         words,
         entries,
     }
@@ -53,14 +53,10 @@ impl Registration {
     pub fn new() -> Registration
         ensures { registered result ≡ None }
     {
-        let none = Access {
-            device: Device::M,
-            number: 0,
-        };
         Registration {
             count: None,
             words: 0,
-            entries: [none; 192],
+            entries: [UNUSED; 192],
         }
     }
 
@@ -76,9 +72,7 @@ impl Registration {
         ensures value { accesses result.now ≡ words_in self.now }
         ensures few { length result.now ≤ 192 }
     {
-        let words = self.words;
-        let entries: &[Access] = &self.entries;
-        &entries[0..words]
+        &self.entries[..self.words]
     }
 
     // The accesses of a double word, which stand behind.
@@ -86,11 +80,9 @@ impl Registration {
         ensures value { accesses result.now ≡ doubles_in self.now }
         ensures few { length result.now ≤ 192 }
     {
-        let words = self.words;
-        let entries: &[Access] = &self.entries;
         match self.count {
-            Some(count) => &entries[words..count],
-            None => &entries[0..0],
+            Some(count) => &self.entries[self.words..count],
+            None => &[],
         }
     }
 }

@@ -5,4 +5,5 @@ use Rattle.server.proofs.answer.accept.Goals as goal
 pub returns-clause-tells : goal.returns-clause-tells
 returns-clause-tells g c =
     let head = c.write_head-at.ensures in
-    told g.C.WireCode.which c.args.header 0 0 c.write_head-at.result _ None [] c.args.reply.now c.write_head-at.new.out _ refl head.end (omega arith) head.written refl
+    let done = c.accepted.ensures in
+    told g.C.WireCode.which c.args.header 0 0 c.write_head-at.result None [] c.args.reply.now c.write_head-at.new.out _ _ done.taken (omega (arith, done.length)) done.fault refl head.end head.written refl

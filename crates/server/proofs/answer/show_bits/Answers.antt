@@ -1,4 +1,4 @@
-use Rattle.std.proofs.Common.{None, sym, refl, ap, ◌∙◌}
+use Rattle.std.proofs.Common.{None, sym, ap, ◌∙◌}
 use Rattle.wire.specs.Points.{bits_bytes, bits_size}
 use Rattle.server.specs.Points.{bits}
 use Rattle.server.proofs.Shows.{length_bits_bytes, length_bits}
@@ -12,5 +12,7 @@ returns-clause-tells g c =
     let V = (g.M.ReadableMemory.means x.memory.now).value in
     let vs = bits V x.device x.number x.points in
     let head = c.write_head-at.ensures in
-    told code x.header 0 _ c.write_head-at.result _ None (bits_bytes code vs) x.reply.now c.write_head-at.new.out _
-    (length_bits_bytes code vs ∙ ap (bits_size code) (length_bits V x.device x.number x.points) ∙ sym c.bits_size-size.ensures) head.end refl head.written c.write_bits.ensures
+    let done = c.accepted.ensures in
+    told code x.header 0 _ c.write_head-at.result None (bits_bytes code vs) x.reply.now c.write_head-at.new.out _ _
+    done.taken done.length done.fault
+    (length_bits_bytes code vs ∙ ap (bits_size code) (length_bits V x.device x.number x.points) ∙ sym c.bits_size-size.ensures) head.end head.written c.write_bits.ensures

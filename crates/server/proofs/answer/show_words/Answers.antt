@@ -1,4 +1,4 @@
-use Rattle.std.proofs.Common.{◌*◌, None, sym, refl, ◌∙◌}
+use Rattle.std.proofs.Common.{◌*◌, None, sym, ◌∙◌}
 use Rattle.wire.specs.Series.{values_bytes}
 use Rattle.server.specs.Points.{words}
 use Rattle.server.proofs.Shows.{length_values, length_words}
@@ -11,5 +11,7 @@ returns-clause-tells g c =
     let x = c.args in
     let vs = words (g.M.ReadableMemory.means x.memory.now).value x.device x.number x.points in
     let head = c.write_head-at.ensures in
-    told code x.header 0 _ c.write_head-at.result _ None (values_bytes code 2 vs) x.reply.now c.write_head-at.new.out _
-    (length_values code 2 vs ∙ (λ i. length_words (g.M.ReadableMemory.means x.memory.now).value x.device x.number x.points i * sym c.field_size.ensures i)) head.end refl head.written c.write_words.ensures
+    let done = c.accepted.ensures in
+    told code x.header 0 _ c.write_head-at.result None (values_bytes code 2 vs) x.reply.now c.write_head-at.new.out _ _
+    done.taken done.length done.fault
+    (length_values code 2 vs ∙ (λ i. length_words (g.M.ReadableMemory.means x.memory.now).value x.device x.number x.points i * sym c.field_size.ensures i)) head.end head.written c.write_words.ensures

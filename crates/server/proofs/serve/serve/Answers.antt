@@ -1,13 +1,9 @@
-use Rattle.std.proofs.Common.{◌≡◌, ℕ, ◌-◌, List, take, Result, ap, subst, arith, length-take}
+use Rattle.std.proofs.Common.{Result, subst, arith, length-take}
 use Rattle.frame.specs.declared.fault.Fault.{Fault}
 use Rattle.frame.specs.declared.header.Header.{Header}
-use Rattle.request.specs.Readings.{request_in}
-use Rattle.server.specs.Serves.{Came, answered, taken_up}
+use Rattle.server.specs.Serves.{Came, taken_up}
 use Rattle.server.specs.Registered.{registered}
 use Rattle.server.proofs.serve.serve.Goals as goal
-
-front : (n : ℕ) (xs : List ℕ) → take (n - 0) xs ≡ take n xs
-front n xs = ap (λ k. take k xs) (omega arith)
 
 pub answer_frame-requires : goal.answer_frame-requires
 answer_frame-requires g c =
@@ -19,17 +15,14 @@ returns-in-Ok g c =
     let code = g.C.WireCode.which in
     let m = g.M.ReadableMemory.means in
     let x = c.args in
-    let h = c.in-Ok.header in
     let before = m x.memory.now in
     let l = registered x.registration.now in
     let flag = x.settings.now.write_flag in
     let after = m c.answer_frame.new.memory in
     let l' = registered c.answer_frame.new.registration in
-    let whole = subst (λ (ys : List ℕ). Came (answered code h before l (request_in code before flag h ys)) c.answer_frame.result x.reply.now c.answer_frame.new.reply after l')
-    (front h.size x.frame.now) c.answer_frame.ensures.came in
     record {
       came = subst (λ (q : Result Header Fault). Came (taken_up code before flag l x.frame.now q) c.answer_frame.result x.reply.now c.answer_frame.new.reply after l')
-          c.in-Ok.ensures.value whole;
+          c.in-Ok.ensures.value c.answer_frame.ensures.came;
       keeps = c.answer_frame.ensures.keeps;
       fits = c.answer_frame.ensures.fits;
     }

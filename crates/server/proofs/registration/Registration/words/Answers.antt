@@ -1,14 +1,12 @@
-use Rattle.std.proofs.Common.{◌≡◌, ◌-◌, take, sym, ap, ◌∙◌, arith, length-take}
+use Rattle.std.proofs.Common.{sym, arith, length-take}
 use Rattle.std.proofs.lemmas.List.{take-map}
 use Rattle.server.specs.declared.registration.Access.{Access}
-use Rattle.server.specs.Registered.{accesses}
 use Rattle.server.proofs.registration.Registration.words.Goals as goal
 
 pub returns : goal.returns
 returns c =
     let s = c.args.self.now in
-    let all : s.words - 0 ≡ s.words = omega arith in
     record {
-      value = ap (λ n. accesses (take n s.entries)) all ∙ sym (take-map (λ (e : Access). (e.device, e.number)) s.words s.entries);
+      value = sym (take-map (λ (e : Access). (e.device, e.number)) s.words s.entries);
       few = simp length-take (omega arith);
     }

@@ -1,22 +1,31 @@
-use Rattle.std.proofs.Common.{◌+◌, sym, ap, ◌∙◌, arith}
+use Rattle.std.proofs.Common.{length, drop, sym, ap, ◌∙◌, arith}
+use Rattle.std.proofs.lemmas.List.{set-get_or}
 use lib.Seq.{sets}
 use Rattle.request.specs.Entries.{access_in}
-use Rattle.request.proofs.Turns.{in_goes_on, in_stops}
+use Rattle.request.proofs.Turns.{in_goes_on, in_stops, in_none_left}
 use Rattle.server.specs.Registered.{accesses}
 use Rattle.server.proofs.Listing.{fill_turn}
 use Rattle.server.proofs.registration.lists.fill.Goals as goal
 
-pub returns-in-Err : goal.returns-in-Err
-returns-in-Err g c =
+pub returns-in_default : goal.returns-in_default
+returns-in_default g c =
     let x = c.args in
-    let l = c.loop-i in
-    let none = in_stops (access_in g.C.WireCode.which) x.list.now x.count l.i l.place (omega arith) _ (sym c.in-Err.ensures.value) in
-    sym (ap (sets (accesses l.entries) (x.at + l.i)) none) ∙ l.invariant
+    let l = c.loop-entry in
+    let read = sym (sym c.in_default.is ∙ c.access_at.ensures.value) in
+    let none = in_stops (access_in g.C.WireCode.which) x.list.now (length x.entries.now) l.entry-index l.place (omega arith) _ read in
+    ap accesses (set-get_or l.entry-items l.entry-index _) ∙ sym (ap (sets (accesses l.entry-items) l.entry-index) none) ∙ l.invariant
 
-pub loop-i-preserved : goal.loop-i-preserved
-loop-i-preserved g c =
+pub loop-entry-preserved : goal.loop-entry-preserved
+loop-entry-preserved g c =
     let x = c.args in
-    let l = c.loop-i in
+    let l = c.loop-entry in
     let q = c.in-Ok in
-    let got = in_goes_on (access_in g.C.WireCode.which) x.list.now x.count l.i l.place (omega arith) _ (sym q.ensures.value) in
-    fill_turn l.entries x.at l.i (record { device = q.device; number = q.number }) _ _ got ∙ l.invariant
+    let got = in_goes_on (access_in g.C.WireCode.which) x.list.now (length x.entries.now) l.entry-index l.place (omega arith) _ (sym (sym q.is ∙ c.access_at.ensures.value)) in
+    fill_turn l.entry-items l.entry-index (record { device = q.device; number = q.number }) _ _ got ∙ l.invariant
+
+pub returns : goal.returns
+returns g c =
+    let x = c.args in
+    let l = c.loop-entry in
+    let none = in_none_left (access_in g.C.WireCode.which) (drop l.place x.list.now) (length x.entries.now) l.entry-index (omega arith) in
+    sym (ap (sets (accesses l.entry-items) l.entry-index) none) ∙ l.invariant
