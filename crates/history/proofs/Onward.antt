@@ -1,38 +1,44 @@
 -- One call more of a list, and the end of a list.
-use Rattle.std.proofs.Common.{◌≡◌, ℕ, zero, suc, ◌+◌, ◌<◌, Bool, true, List, [], ◌∷◌, ◌++◌, length, get_or, take, Some, None, Option, sym, refl, ap, ◌∙◌, subst, add-one, arith}
-use Rattle.std.proofs.lemmas.List.{get_or-map, length-map}
+use Rattle.std.proofs.Common.{◌≡◌, ℕ, zero, suc, ◌+◌, ◌⊎◌, inl, inr, Bool, true, List, [], ◌∷◌, ◌++◌, take, drop, is_none, is_some, Some, None, Option, sym, refl, ap, ◌∙◌, subst, add-one, drop-drop}
 use Rattle.memory.specs.Meaning.{Meaning}
 use Rattle.wire.specs.declared.code.Code.{Code}
 use Rattle.frame.specs.declared.fault.Fault.{Fault}
 use Rattle.server.specs.Registered.{Listed}
 use Rattle.history.specs.declared.call.Call.{Call}
+use Rattle.history.specs.declared.call.Call.TheVariants.{Frame, Set, Open, End}
 use Rattle.history.specs.declared.call.Outcome.{Outcome}
 use Rattle.server.specs.Histories.{Move, frame, opening, ending, Shown, taken, window, State, state, step, outcome, shown, after, closed, final, Reached, Ran, CarriesOn}
 use Rattle.server.proofs.Onward.{carries_on}
-use Rattle.history.specs.Moves.{move, moves, told, tellings}
+use Rattle.history.specs.Moves.{move, moves, told, tellings, StaysIn, Left}
 
-take_on : {A : Type 0} (xs : List A) (k : ℕ) (d : A) → k < length xs → take (suc k) xs ≡ take k xs ++ get_or xs k d ∷ []
-take_on [] k d h = absurd (omega arith)
-take_on (x ∷ xs) zero d h = refl
-take_on (x ∷ xs) (suc k) d h = ap (λ l. x ∷ l) (take_on xs k d (omega arith))
+-- the call that is left first of a list is the next that is taken
+take_next : (all : List Move) (k : ℕ) (m : Move) (rest : List Move) → drop k all ≡ m ∷ rest → take (suc k) all ≡ take k all ++ m ∷ []
+take_next [] zero m rest e = cc
+take_next [] (suc k) m rest e = cc
+take_next (x ∷ xs) zero m rest e = let is : x ≡ m = cc in ap (λ y. y ∷ []) is
+take_next (x ∷ xs) (suc k) m rest e = ap (λ l. x ∷ l) (take_next xs k m rest e)
+
+drop_next : (all : List Move) (k : ℕ) (m : Move) (rest : List Move) → drop k all ≡ m ∷ rest → drop (k + 1) all ≡ rest
+drop_next all k m rest e = sym (drop-drop 1 k all) ∙ ap (drop 1) e
 
 map_on : (os : List Outcome) (o : Outcome) → tellings (os ++ o ∷ []) ≡ tellings os ++ told o ∷ []
 map_on [] o = refl
 map_on (p ∷ os) o = ap (λ l. told p ∷ l) (map_on os o)
 
--- the k-th call of a list, and its outcome behind those so far
-pub one_more : (s₀ : State) (cs : List Call) (j k k' : ℕ) (d : Call) (m : Move) (os os' : List Outcome) (o : Outcome) (s s' : State)
-    → k ≡ j → j < length cs → k' ≡ k + 1 → move (get_or cs j d) ≡ m → os' ≡ os ++ o ∷ [] → CarriesOn s m (told o) s'
-    → Reached s₀ (take k (moves cs)) (tellings os) s → Reached s₀ (take k' (moves cs)) (tellings os') s'
-one_more s₀ cs j k k' d m os os' o s s' same below next named more one so_far =
-    let h : k < length cs = omega (arith, same) in
-    let is : move (get_or cs k d) ≡ m = ap (λ i. move (get_or cs i d)) same ∙ named in
-    let long : k < length (moves cs) = rw (length-map cs move) h in
-    let to : take k' (moves cs) ≡ take k (moves cs) ++ m ∷ [] =
-    ap (λ n. take n (moves cs)) (next ∙ add-one k) ∙ take_on (moves cs) k (move d) long ∙ ap (λ x. take k (moves cs) ++ x ∷ []) (get_or-map move cs k d (move d) h ∙ is) in
+-- one call more of a list is carried out, the first of those that are left
+pub one_more : (s₀ : State) (all : List Move) (k k' : ℕ) (d : Call) (m : Move) (cs cs' : List Call) (os os' : List Outcome) (o : Outcome) (s s' : State)
+    → k' ≡ k + 1 → cs ≡ d ∷ cs' → move d ≡ m → os' ≡ os ++ o ∷ [] → CarriesOn s m (told o) s'
+    → Left all k cs → Reached s₀ (take k all) (tellings os) s → Reached s₀ (take k' all) (tellings os') s'
+one_more s₀ all k k' d m cs cs' os os' o s s' next here named more one left so_far =
+    let first : drop k all ≡ m ∷ moves cs' = left ∙ ap moves here ∙ ap (λ n. n ∷ moves cs') named in
+    let to : take k' all ≡ take k all ++ m ∷ [] = ap (λ n. take n all) (next ∙ add-one k) ∙ take_next all k m (moves cs') first in
     let outs : tellings os' ≡ tellings os ++ told o ∷ [] = ap tellings more ∙ map_on os o in
-    let r = one s₀ (take k (moves cs)) (tellings os) so_far in
-    subst (λ l. Reached s₀ l (tellings os') s') (sym to) (subst (λ l. Reached s₀ (take k (moves cs) ++ m ∷ []) l s') (sym outs) r)
+    let r = one s₀ (take k all) (tellings os) so_far in
+    subst (λ l. Reached s₀ l (tellings os') s') (sym to) (subst (λ l. Reached s₀ (take k all ++ m ∷ []) l s') (sym outs) r)
+
+-- and the others are left then
+pub left_on : (all : List Move) (k k' : ℕ) (d : Call) (cs cs' : List Call) → k' ≡ k + 1 → cs ≡ d ∷ cs' → Left all k cs → Left all k' cs'
+left_on all k k' d cs cs' next here left = ap (λ n. drop n all) next ∙ drop_next all k (move d) (moves cs') (left ∙ ap moves here)
 
 -- the flag under another name
 pub with_flag : (m m' : Meaning) (flag flag' : Bool) (b : Option Bool) (g g' : Option Listed) (c : Move) (o : Shown) → flag ≡ flag'
@@ -49,24 +55,45 @@ other_space s s' code xs before space after all t n {f = f} p q one =
 pub fixed_as : (s : State) (m : Move) (o : Shown) → o ≡ outcome s m → CarriesOn s m o (step s m)
 fixed_as s m o e = carries_on s m o (step s m) e refl
 
+-- an opening within a window and an ending outside one are declined
+module _ (m : Meaning) (flag : Bool) (g : Option Listed) (o : Outcome) (shows : told o ≡ window None) where
+  declines_open : (b : Option Bool) → is_some b ≡ true → CarriesOn (state m flag b g) opening (told o) (state m flag b g)
+  declines_open None e = cc
+  declines_open (Some was) e = fixed_as _ _ _ shows
+
+  declines_end : (b : Option Bool) → is_none b ≡ true → CarriesOn (state m flag b g) ending (told o) (state m flag b g)
+  declines_end None e = fixed_as _ _ _ shows
+  declines_end (Some was) e = cc
+
+  pub declines : (c : Call) → (c ≡ Open) ⊎ (c ≡ End) → (b : Option Bool) → StaysIn b (move c) → CarriesOn (state m flag b g) (move c) (told o) (state m flag b g)
+  declines c (inl e) b stays = subst (λ k. CarriesOn (state m flag b g) k (told o) (state m flag b g)) (sym (ap move e)) (declines_open b (subst (StaysIn b) (ap move e) stays))
+  declines c (inr e) b stays = subst (λ k. CarriesOn (state m flag b g) k (told o) (state m flag b g)) (sym (ap move e)) (declines_end b (subst (StaysIn b) (ap move e) stays))
+
+-- within a window any call but an ending stays in it, and outside any but an opening stays outside
+pub stays_in : (was : Bool) (c : Call) → (c ≡ End → ⊥) → StaysIn (Some was) (move c)
+stays_in was (Frame code bytes space) h = tt
+stays_in was (Set d n v) h = tt
+stays_in was Open h = refl
+stays_in was End h = absurd (h refl)
+
+pub stays_out : (c : Call) → (c ≡ Open → ⊥) → StaysIn None (move c)
+stays_out (Frame code bytes space) h = tt
+stays_out (Set d n v) h = tt
+stays_out Open h = absurd (h refl)
+stays_out End h = refl
+
 -- the flag before a window under another name
 pub with_was : (s₀ : State) (ms : List Move) (os : List Shown) (m : Meaning) (was was' : Bool) (g : Option Listed) → was ≡ was'
     → Reached s₀ ms os (state m true (Some was) g) → Reached s₀ ms os (state m true (Some was') g)
 with_was s₀ ms os m was was' g e r = subst (λ w. Reached s₀ ms os (state m true (Some w) g)) e r
 
 -- the ending of a window, which shows the flag that it puts back
-pub window_ended : (s₀ : State) (cs : List Call) (j k k' : ℕ) (d : Call) (os os' : List Outcome) (o : Outcome) (m : Meaning) (was flag : Bool) (g : Option Listed)
-    → was ≡ flag → k ≡ j → j < length cs → k' ≡ k + 1 → move (get_or cs j d) ≡ ending → os' ≡ os ++ o ∷ [] → told o ≡ window (Some was)
-    → Reached s₀ (take k (moves cs)) (tellings os) (state m true (Some was) g) → Reached s₀ (take k' (moves cs)) (tellings os') (state m flag None g)
-window_ended s₀ cs j k k' d os os' o m was flag g e same below next named more shows so_far =
-    one_more s₀ cs j k k' d ending os os' o _ _ same below next named more (carries_on _ _ _ _ shows (ap (λ f. state m f None g) (sym e))) so_far
+pub ended : (m : Meaning) (was flag : Bool) (g : Option Listed) (o : Outcome) → was ≡ flag → told o ≡ window (Some was) → CarriesOn (state m true (Some was) g) ending (told o) (state m flag None g)
+ended m was flag g o e shows = carries_on _ _ _ _ shows (ap (λ f. state m f None g) (sym e))
 
 -- the opening of a window, by the flag under either of its names
-pub opening_first : (s₀ : State) (cs : List Call) (j k k' : ℕ) (d : Call) (os os' : List Outcome) (o : Outcome) (m : Meaning) (flag was : Bool) (g : Option Listed)
-    → was ≡ flag → k ≡ j → j < length cs → k' ≡ k + 1 → move (get_or cs j d) ≡ opening → os' ≡ os ++ o ∷ [] → told o ≡ window (Some true)
-    → Reached s₀ (take k (moves cs)) (tellings os) (state m flag None g) → Reached s₀ (take k' (moves cs)) (tellings os') (state m true (Some was) g)
-opening_first s₀ cs j k k' d os os' o m flag was g e same below next named more shows so_far =
-    one_more s₀ cs j k k' d opening os os' o _ _ same below next named more (carries_on _ _ _ _ shows (ap (λ f. state m true (Some f) g) e)) so_far
+pub opened : (m : Meaning) (flag was : Bool) (g : Option Listed) (o : Outcome) → was ≡ flag → told o ≡ window (Some true) → CarriesOn (state m flag None g) opening (told o) (state m true (Some was) g)
+opened m flag was g o e shows = carries_on _ _ _ _ shows (ap (λ f. state m true (Some f) g) e)
 
 -- what was left under another name of the flag
 pub ran_flag : (s₀ : State) (ms : List Move) (os : List Shown) (m : Meaning) (flag flag' : Bool) (g : Option Listed) → flag ≡ flag' → Ran s₀ ms os (state m flag None g) → Ran s₀ ms os (state m flag' None g)

@@ -2,16 +2,17 @@
 ghost use Rattle.std.specs.Prelude.{◌≡◌, Bool, Option, MatchResult};
 ghost use Rattle.server.specs.Registered.{registered};
 ghost use Rattle.server.specs.Histories.{frame, state, CarriesOn};
-ghost use Rattle.history.specs.Moves.{told};
+ghost use Rattle.history.specs.Moves.{move, told, StaysIn};
 
-use crate::call::Outcome;
+use crate::call::{Call, Outcome};
+use crate::windows::declined;
 use memory::{ReadableMemory, WritableMemory};
-use server::{Registration, Settings, take_frame};
+use server::{Registration, Settings, set_point, take_frame};
 use std::alloc::{AllocError, Global};
 use wire::Code;
 
 // Takes the frame at the front of `bytes`, with a reply space that begins as `space`. Where memory does not suffice for it, nothing is carried out.
-pub(crate) fn answer_frame<M: WritableMemory>(
+fn answer_frame<M: WritableMemory>(
     heap: Global,
     code: Code,
     bytes: &[u8],
@@ -33,4 +34,29 @@ pub(crate) fn answer_frame<M: WritableMemory>(
         registration,
     );
     Ok(Outcome::Taken { answer, space })
+}
+
+// Carries out a call that opens and ends no window: a frame, a value given by the bench, or what is declined, an opening within a window and an ending outside one.
+// Where memory does not suffice for it, nothing is carried out.
+pub(crate) fn carry_out<M: WritableMemory>(
+    heap: Global,
+    call: Call<'_>,
+    memory: &mut M,
+    settings: &Settings,
+    registration: &mut Registration,
+) -> Result<Outcome, AllocError>
+    ensures keeps { M.ReadableMemory.keeps memory.old memory.new }
+    ensures carries { MatchResult result (λ o. (b : Option Bool) → StaysIn b (move call.entry) → CarriesOn (state (M.ReadableMemory.means memory.old) settings.now.write_flag b (registered registration.old)) (move call.entry) (told o) (state (M.ReadableMemory.means memory.new) settings.now.write_flag b (registered registration.new))) (λ _. (M.ReadableMemory.means memory.new ≡ M.ReadableMemory.means memory.old) × (registered registration.new ≡ registered registration.old)) }
+{
+    match call {
+        Call::Frame { code, bytes, space } => {
+            answer_frame(heap, code, bytes, space, memory, settings, registration)
+        }
+        Call::Set {
+            device,
+            number,
+            value,
+        } => Ok(Outcome::Written(set_point(memory, device, number, value))),
+        Call::Open | Call::End => Ok(declined()),
+    }
 }

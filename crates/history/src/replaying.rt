@@ -1,68 +1,47 @@
 // Carrying out a list of calls.
-ghost use Rattle.std.specs.Prelude.{◌≡◌, ◌<◌, ◌≤◌, true, false, [], length, take, is_ok, Some, None, vec_len, vec_capacity};
+ghost use Rattle.std.specs.Prelude.{◌≡◌, ◌+◌, ◌<◌, ◌≤◌, List, true, false, [], length, take, is_ok, Some, None, vec_len, vec_capacity};
+ghost use Rattle.std.specs.Slice.Iter.{iter_rest};
 ghost use Rattle.server.specs.Registered.{registered};
-ghost use Rattle.history.specs.Moves.{moves, tellings};
-ghost use Rattle.server.specs.Histories.{State, state, Reached, Ran};
+ghost use Rattle.history.specs.Moves.{moves, tellings, Left};
+ghost use Rattle.server.specs.Histories.{Move, State, state, Reached, Ran};
 ghost use Rattle.history.specs.Latest.{KeptTo, KeptOn};
 
 use crate::call::{Call, Outcome};
-use crate::live::answer_frame;
-use crate::windows::{carried_out, declined};
+use crate::live::carry_out;
+use crate::windows::carried_out;
 use memory::{ReadableMemory, WritableMemory};
-use server::{Registration, Server, Settings, Window, set_point};
+use server::{Registration, Server, Settings, Window};
 use std::alloc::{AllocError, Global};
+use std::slice::Iter;
 
 // The calls that fall into a window, until its end or the end of the list. There is an outcome for each call that was carried out.
 fn run_window<M: WritableMemory>(
     heap: Global,
-    calls: &[Call<'_>],
+    calls: &mut Iter<'_, Call<'_>>,
     memory: &mut M,
     settings: &mut Settings,
     registration: &mut Registration,
     outcomes: &mut Vec<Outcome>,
 ) -> Result<(), AllocError>
-    requires room { length calls.now ≤ vec_capacity outcomes.old }
-    requires few { vec_len outcomes.old ≤ length calls.now }
-    ensures few { (vec_len outcomes.old ≤ vec_len outcomes.new) × (vec_len outcomes.new ≤ length calls.now) }
-    ensures room { length calls.now ≤ vec_capacity outcomes.new }
+    requires room { vec_len outcomes.old + length (iter_rest calls.old) ≤ vec_capacity outcomes.old }
+    ensures few { (vec_len outcomes.old ≤ vec_len outcomes.new) × (vec_len outcomes.new + length (iter_rest calls.new) ≤ vec_len outcomes.old + length (iter_rest calls.old)) }
+    ensures room { vec_len outcomes.old + length (iter_rest calls.old) ≤ vec_capacity outcomes.new }
     ensures keeps { M.ReadableMemory.keeps memory.old memory.new }
     ensures flag { settings.new.write_flag ≡ settings.old.write_flag }
-    ensures ran { (s : State) → Reached s (take (vec_len outcomes.old) (moves calls.now)) (tellings outcomes.old.items) (state (M.ReadableMemory.means memory.old) true (Some settings.old.write_flag) (registered registration.old)) → Ran s (take (vec_len outcomes.new) (moves calls.now)) (tellings outcomes.new.items) (state (M.ReadableMemory.means memory.new) settings.old.write_flag None (registered registration.new)) }
-    ensures reached { is_ok result ≡ true → (s : State) → vec_len outcomes.new < length calls.now → Reached s (take (vec_len outcomes.old) (moves calls.now)) (tellings outcomes.old.items) (state (M.ReadableMemory.means memory.old) true (Some settings.old.write_flag) (registered registration.old)) → Reached s (take (vec_len outcomes.new) (moves calls.now)) (tellings outcomes.new.items) (state (M.ReadableMemory.means memory.new) settings.old.write_flag None (registered registration.new)) }
-    ensures want { is_ok result ≡ false → vec_len outcomes.new < length calls.now }
+    ensures ran { (s : State) (all : List Move) → Left all (vec_len outcomes.old) (iter_rest calls.old) → Reached s (take (vec_len outcomes.old) all) (tellings outcomes.old.items) (state (M.ReadableMemory.means memory.old) true (Some settings.old.write_flag) (registered registration.old)) → Ran s (take (vec_len outcomes.new) all) (tellings outcomes.new.items) (state (M.ReadableMemory.means memory.new) settings.old.write_flag None (registered registration.new)) }
+    ensures reached { is_ok result ≡ true → (s : State) (all : List Move) → Left all (vec_len outcomes.old) (iter_rest calls.old) → 0 < length (iter_rest calls.new) → Reached s (take (vec_len outcomes.old) all) (tellings outcomes.old.items) (state (M.ReadableMemory.means memory.old) true (Some settings.old.write_flag) (registered registration.old)) → Reached s (take (vec_len outcomes.new) all) (tellings outcomes.new.items) (state (M.ReadableMemory.means memory.new) settings.old.write_flag None (registered registration.new)) }
+    ensures left { is_ok result ≡ true → (all : List Move) → Left all (vec_len outcomes.old) (iter_rest calls.old) → Left all (vec_len outcomes.new) (iter_rest calls.new) }
+    ensures whole { is_ok result ≡ true → vec_len outcomes.new + length (iter_rest calls.new) ≡ vec_len outcomes.old + length (iter_rest calls.old) }
+    ensures want { is_ok result ≡ false → vec_len outcomes.new + length (iter_rest calls.new) < vec_len outcomes.old + length (iter_rest calls.old) }
 {
     let window = Window::open(settings);
-    let mut at = outcomes.len();
-    while at < calls.len() {
-        let call = calls[at];
-        at += 1;
-        match call {
-            Call::Frame { code, bytes, space } => {
-                let outcome = answer_frame(
-                    heap,
-                    code,
-                    bytes,
-                    space,
-                    memory,
-                    window.settings(),
-                    registration,
-                )?;
-                outcomes.push_reserved(outcome);
-            }
-            Call::Set {
-                device,
-                number,
-                value,
-            } => {
-                let answer = set_point(memory, device, number, value);
-                outcomes.push_reserved(Outcome::Written(answer));
-            }
-            Call::Open => outcomes.push_reserved(declined()),
-            Call::End => {
-                outcomes.push_reserved(carried_out(window.was()));
-                return Ok(());
-            }
+    while let Some(call) = calls.next() {
+        if let Call::End = call {
+            outcomes.push_reserved(carried_out(window.was()));
+            return Ok(());
         }
+        let outcome = carry_out(heap, *call, memory, window.settings(), registration)?;
+        outcomes.push_reserved(outcome);
     }
     Ok(())
 }
@@ -89,44 +68,27 @@ fn run_calls<M: WritableMemory>(
     ensures whole { is_ok result ≡ true → vec_len outcomes.new ≡ length calls.now }
     ensures want { is_ok result ≡ false → vec_len outcomes.new < length calls.now }
 {
-    let mut at = 0;
-    while at < calls.len() {
-        let call = calls[at];
-        at += 1;
-        match call {
-            Call::Frame { code, bytes, space } => {
-                let outcome = answer_frame(
-                    heap,
-                    code,
-                    bytes,
-                    space,
-                    &mut server.memory,
-                    &server.settings,
-                    &mut server.registration,
-                )?;
-                outcomes.push_reserved(outcome);
-            }
-            Call::Set {
-                device,
-                number,
-                value,
-            } => {
-                let answer = set_point(&mut server.memory, device, number, value);
-                outcomes.push_reserved(Outcome::Written(answer));
-            }
-            Call::Open => {
-                outcomes.push_reserved(carried_out(true));
-                run_window(
-                    heap,
-                    calls,
-                    &mut server.memory,
-                    &mut server.settings,
-                    &mut server.registration,
-                    outcomes,
-                )?;
-                at = outcomes.len();
-            }
-            Call::End => outcomes.push_reserved(declined()),
+    let mut calls = calls.iter();
+    while let Some(call) = calls.next() {
+        if let Call::Open = call {
+            outcomes.push_reserved(carried_out(true));
+            run_window(
+                heap,
+                &mut calls,
+                &mut server.memory,
+                &mut server.settings,
+                &mut server.registration,
+                outcomes,
+            )?;
+        } else {
+            let outcome = carry_out(
+                heap,
+                *call,
+                &mut server.memory,
+                &server.settings,
+                &mut server.registration,
+            )?;
+            outcomes.push_reserved(outcome);
         }
     }
     Ok(())

@@ -1,83 +1,54 @@
-use Rattle.std.proofs.Common.{◌≡◌, true, is_ok, None, sym, refl, ap, ◌∙◌, arith, rules}
-use Rattle.history.specs.Moves.{move}
-use Rattle.history.proofs.Onward.{one_more, with_flag, opening_first, ran_flag, reached_flag, fixed_as, same_left, at_rest}
+use Rattle.std.proofs.Common.{◌≡◌, ◌<◌, true, length, is_ok, None, refl, ap, ◌∙◌, arith, rules}
+use Rattle.std.specs.Slice.Iter.{iter_rest}
+use Rattle.history.specs.Moves.{move, moves}
+use Rattle.history.proofs.Onward.{one_more, left_on, opened, stays_out, with_flag, ran_flag, reached_flag, at_rest}
 use Rattle.history.proofs.replaying.run_calls.Goals as goal
 
-pub returns-in_err-outcome-in-Frame : goal.returns-in_err-outcome-in-Frame
-returns-in_err-outcome-in-Frame g c =
-    let i = c.loop-at.invariant in
-    let m = g.M.ReadableMemory in
-    let same = c.in_err-outcome-in-Frame.ensures.carries in
-    record {
-      keeps = m.sound.kept_on _ _ _ i.3 c.answer_frame.ensures.keeps;
-      flag = i.4;
-      ran = at_rest _ _ _ _ _ _ (same_left _ _ _ _ _ _ _ _ _ same.0 same.1 (i.6 c.loop-at-test.true));
-      whole = search rules;
-      want = λ e. omega (arith, i.0, c.loop-at-test.true);
-    }
-
-pub loop-at-preserved-in-Frame : goal.loop-at-preserved-in-Frame
-loop-at-preserved-in-Frame g c =
-    let i = c.loop-at.invariant in
-    let m = g.M.ReadableMemory in
-    let more = one_more _ c.args.calls.now _ _ _ _ _ _ _ _ _ _ i.0 c.loop-at-test.true c.push_reserved.ensures.len (ap move c.in-Frame.is) c.push_reserved.ensures.items
-    (with_flag _ _ _ _ None _ _ _ _ i.4 (c.in_ok-outcome-in-Frame.ensures.carries None)) (i.6 c.loop-at-test.true) in (
-      search rules,
-      omega arith,
-      search rules,
-      m.sound.kept_on _ _ _ i.3 c.answer_frame.ensures.keeps,
-      i.4,
-      at_rest _ _ _ _ _ _ more,
-      λ _. more,
-    )
-
-pub loop-at-preserved-in-Set : goal.loop-at-preserved-in-Set
-loop-at-preserved-in-Set g c =
-    let i = c.loop-at.invariant in
-    let m = g.M.ReadableMemory in
-    let more = one_more _ c.args.calls.now _ _ _ _ _ _ _ _ _ _ i.0 c.loop-at-test.true c.push_reserved-in-Set.ensures.len (ap move c.in-Set.is) c.push_reserved-in-Set.ensures.items
-    (c.set_point-answer.ensures.carries _ None _) (i.6 c.loop-at-test.true) in (
-      search rules,
-      omega arith,
-      search rules,
-      m.sound.kept_on _ _ _ i.3 c.set_point-answer.ensures.keeps,
-      i.4,
-      at_rest _ _ _ _ _ _ more,
-      λ _. more,
-    )
-
-pub returns-in_err-run_window-in-Open : goal.returns-in_err-run_window-in-Open
-returns-in_err-run_window-in-Open g c =
-    let i = c.loop-at.invariant in
-    let m = g.M.ReadableMemory in
-    let w = c.in_err-run_window-in-Open.ensures in
-    let begun = opening_first _ c.args.calls.now _ _ _ _ _ _ _ _ _ _ _ i.4 i.0 c.loop-at-test.true c.push_reserved-in-Open.ensures.len (ap move c.in-Open.is) c.push_reserved-in-Open.ensures.items c.carried_out.ensures (i.6 c.loop-at-test.true) in
-    record {
-      keeps = m.sound.kept_on _ _ _ i.3 w.keeps;
-      flag = w.flag ∙ i.4;
-      ran = ran_flag _ _ _ _ _ _ _ i.4 (w.ran _ begun);
-      whole = search rules;
-      want = λ e. w.want refl;
-    }
-
-pub loop-at-preserved-in-Open : goal.loop-at-preserved-in-Open
-loop-at-preserved-in-Open g c =
-    let i = c.loop-at.invariant in
-    let m = g.M.ReadableMemory in
+pub loop-call-preserved-in-Continue-1 : goal.loop-call-preserved-in-Continue-1
+loop-call-preserved-in-Continue-1 g c =
+    let i = c.loop-call.invariant in
+    let put = c.push_reserved.ensures in
+    let here = c.in-Some.ensures.steps in
     let w = c.run_window.ensures in
     let ok : is_ok c.run_window.result ≡ true = search rules in
-    let begun = opening_first _ c.args.calls.now _ _ _ _ _ _ _ _ _ _ _ i.4 i.0 c.loop-at-test.true c.push_reserved-in-Open.ensures.len (ap move c.in-Open.is) c.push_reserved-in-Open.ensures.items c.carried_out.ensures (i.6 c.loop-at-test.true) in (
-      sym c.len-at.ensures,
-      omega (arith, w.few.1, c.len-at.ensures),
-      w.room,
-      m.sound.kept_on _ _ _ i.3 w.keeps,
-      w.flag ∙ i.4,
-      ran_flag _ _ _ _ _ _ _ i.4 (w.ran _ begun),
-      λ below. reached_flag _ _ _ _ _ _ _ i.4 (w.reached ok _ (omega (arith, below, c.len-at.ensures)) begun),
-    )
+    let some : 0 < length (iter_rest c.loop-call.calls) = omega (arith, ap length here) in
+    let left = left_on (moves c.args.calls.now) _ _ _ _ _ put.len here i.left in
+    let begun = one_more _ (moves c.args.calls.now) _ _ _ _ _ _ _ _ _ _ _ put.len here (ap move c.in-Open.is) put.items (opened _ _ _ _ _ i.flag c.carried_out.ensures) i.left (i.reached some) in
+    record {
+      whole = omega (arith, w.whole ok, i.whole, put.len, ap length here);
+      room = omega (arith, w.room, i.whole, put.len, ap length here);
+      keeps = g.M.ReadableMemory.sound.kept_on _ _ _ i.keeps w.keeps;
+      flag = w.flag ∙ i.flag;
+      left = w.left ok _ left;
+      ran = ran_flag _ _ _ _ _ _ _ i.flag (w.ran _ _ left begun);
+      reached = λ below. reached_flag _ _ _ _ _ _ _ i.flag (w.reached ok _ _ left below begun);
+    }
 
-pub loop-at-preserved : goal.loop-at-preserved
-loop-at-preserved g c =
-    let i = c.loop-at.invariant in
-    let more = one_more _ c.args.calls.now _ _ _ _ _ _ _ _ _ _ i.0 c.loop-at-test.true c.push_reserved-in-End.ensures.len (ap move c.in-End.is) c.push_reserved-in-End.ensures.items (fixed_as _ _ _ c.declined.ensures) (i.6 c.loop-at-test.true) in
-    (search rules, omega arith, search rules, i.3, i.4, at_rest _ _ _ _ _ _ more, λ _. more)
+pub returns-in_err-run_window-clause-ran : goal.returns-in_err-run_window-clause-ran
+returns-in_err-run_window-clause-ran g c =
+    let i = c.loop-call.invariant in
+    let put = c.push_reserved.ensures in
+    let here = c.in-Some.ensures.steps in
+    let some : 0 < length (iter_rest c.loop-call.calls) = omega (arith, ap length here) in
+    let left = left_on (moves c.args.calls.now) _ _ _ _ _ put.len here i.left in
+    let begun = one_more _ (moves c.args.calls.now) _ _ _ _ _ _ _ _ _ _ _ put.len here (ap move c.in-Open.is) put.items (opened _ _ _ _ _ i.flag c.carried_out.ensures) i.left (i.reached some) in
+    ran_flag _ _ _ _ _ _ _ i.flag (c.run_window.ensures.ran _ _ left begun)
+
+pub loop-call-preserved : goal.loop-call-preserved
+loop-call-preserved g c =
+    let i = c.loop-call.invariant in
+    let put = c.push_reserved-in_default-call.ensures in
+    let here = c.in-Some.ensures.steps in
+    let some : 0 < length (iter_rest c.loop-call.calls) = omega (arith, ap length here) in
+    let stays = stays_out c.in-Some.call.now c.in_default-call.not-Open in
+    let one = with_flag _ _ _ _ None _ _ _ _ i.flag (c.in_ok-outcome.ensures.carries None stays) in
+    let more = one_more _ (moves c.args.calls.now) _ _ _ _ _ _ _ _ _ _ _ put.len here refl put.items one i.left (i.reached some) in
+    record {
+      whole = omega (arith, i.whole, put.len, ap length here);
+      room = search rules;
+      keeps = g.M.ReadableMemory.sound.kept_on _ _ _ i.keeps c.carry_out.ensures.keeps;
+      flag = i.flag;
+      left = left_on (moves c.args.calls.now) _ _ _ _ _ put.len here i.left;
+      ran = at_rest _ _ _ _ _ _ more;
+      reached = λ _. more;
+    }

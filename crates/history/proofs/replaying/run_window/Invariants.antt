@@ -1,17 +1,25 @@
-use Rattle.std.proofs.Common.{◌≡◌, ◌-◌, ◌≤◌, true, length, take, Some, vec_items, vec_len, vec_capacity}
+use Rattle.std.proofs.Common.{◌≡◌, ◌+◌, ◌≤◌, true, List, length, take, Some, vec_items, vec_len, vec_capacity}
+use Rattle.std.specs.Slice.Iter.{iter_rest}
 use Rattle.server.specs.Registered.{registered}
-use Rattle.history.specs.Moves.{moves, tellings}
-use Rattle.server.specs.Histories.{State, state, Reached}
+use Rattle.history.specs.Moves.{tellings, Left}
+use Rattle.server.specs.Histories.{Move, State, state, Reached}
 use Rattle.history.proofs.replaying.run_window.Given as goal
 
-abbrev pub invariant-loop-at : goal.invariant-loop-at
-invariant-loop-at g l =
+abbrev pub invariant-loop-call : goal.invariant-loop-call
+invariant-loop-call g l =
     let m = g.M.ReadableMemory in
     let e = l.initial in
-    let all = moves l.calls in
-    (vec_len l.outcomes ≡ l.at) × (vec_len e.outcomes ≤ vec_len l.outcomes) × (vec_len l.outcomes ≤ length l.calls) × (length l.calls ≤ vec_capacity l.outcomes) × m.keeps e.memory l.memory
-    × ((s : State) → Reached s (take (vec_len e.outcomes) all) (tellings (vec_items e.outcomes)) (state (m.means e.memory) true (Some l.window.was) (registered e.registration))
-    → Reached s (take (vec_len l.outcomes) all) (tellings (vec_items l.outcomes)) (state (m.means l.memory) true (Some l.window.was) (registered l.registration)))
+    let n = vec_len e.outcomes in
+    let k = vec_len l.outcomes in
+    let was = l.window.was in record {
+      few : n ≤ k;
+      whole : k + length (iter_rest l.calls) ≡ n + length (iter_rest e.calls);
+      room : n + length (iter_rest e.calls) ≤ vec_capacity l.outcomes;
+      keeps : m.keeps e.memory l.memory;
+      left : (all : List Move) → Left all n (iter_rest e.calls) → Left all k (iter_rest l.calls);
+      reached : (s : State) (all : List Move) → Left all n (iter_rest e.calls) → Reached s (take n all) (tellings (vec_items e.outcomes)) (state (m.means e.memory) true (Some was) (registered e.registration))
+          → Reached s (take k all) (tellings (vec_items l.outcomes)) (state (m.means l.memory) true (Some was) (registered l.registration));
+    }
 
-abbrev pub decreases-loop-at : goal.decreases-loop-at
-decreases-loop-at g l = length l.calls - l.at
+abbrev pub decreases-loop-call : goal.decreases-loop-call
+decreases-loop-call g l = length (iter_rest l.calls)
