@@ -33,10 +33,8 @@ pub fn replay_both<M: WritableMemory, N: WritableMemory>(
     ensures alike { is_ok result.left.end ≡ true → is_ok result.right.end ≡ true → M.ReadableMemory.means left.old.memory ≡ N.ReadableMemory.means right.old.memory → left.old.settings.write_flag ≡ right.old.settings.write_flag → registered left.old.registration ≡ registered right.old.registration → Paired (moves left_calls.now) (moves right_calls.now) → AllSame (moves left_calls.now) (tellings result.left.outcomes.items) (moves right_calls.now) (tellings result.right.outcomes.items) × (M.ReadableMemory.means left.new.memory ≡ N.ReadableMemory.means right.new.memory) × (registered left.new.registration ≡ registered right.new.registration) }
     ensures whole { ((is_ok result.left.end ≡ true → vec_len result.left.outcomes ≡ length left_calls.now)) × ((is_ok result.right.end ≡ true → vec_len result.right.outcomes ≡ length right_calls.now)) }
 {
-    let one = replay(heap, left, left_calls);
-    let other = replay(heap, right, right_calls);
     Both {
-        left: one,
-        right: other,
+        left: replay(heap, left, left_calls),
+        right: replay(heap, right, right_calls),
     }
 }

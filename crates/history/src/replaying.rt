@@ -35,6 +35,7 @@ fn run_window<M: WritableMemory>(
     ensures want { is_ok result ≡ false → vec_len outcomes.new + length (iter_rest calls.new) < vec_len outcomes.old + length (iter_rest calls.old) }
 {
     let window = Window::open(settings);
+    // a `while let`, since after a `for` over `calls` or `calls.by_ref()` it is not proved which calls are left (`returns-clause-left`)
     while let Some(call) = calls.next() {
         if let Call::End = call {
             outcomes.push_reserved(carried_out(window.was()));

@@ -3,8 +3,8 @@ use Rattle.history.proofs.both.replay_both.Goals as goal
 
 pub returns : goal.returns
 returns g c =
-    let l = c.replay-one.ensures in
-    let r = c.replay-other.ensures in
+    let l = c.replay.ensures in
+    let r = c.replay-2.ensures in
     record {
       flag = (l.flag, r.flag);
       left = l.kept.ran;
