@@ -1,5 +1,5 @@
 -- What the tests of a record come to.
-use Rattle.std.proofs.Common.{◌≡◌, ℕ, ◌+◌, ◌-◌, ◌≤◌, List, take, drop, IfOk, Some, None, Ok, Err, Result, ap, ◌∙◌, arith}
+use Rattle.std.proofs.Common.{◌≡◌, ℕ, ◌+◌, ◌-◌, List, take, drop, Some, None, Err, Result, ap, ◌∙◌, arith}
 use Rattle.wire.specs.declared.code.Code.{Code}
 use Rattle.wire.specs.Numbers.{then}
 use Rattle.frame.specs.declared.fault.Cause.TheVariants.{BadRecord}
@@ -23,8 +23,3 @@ unfolding tested_record
 all_there code space sheet at size q e t =
     ap (λ r. then r (λ h. frame_alone at size h.size)) (t ∙ ap (tested code space) (part sheet at size))
     ∙ ap (tested_part code space sheet at) e
-
--- a length that a record is all there with
-pub inside : (at size end : ℕ) (r : Result ℕ Fault) → IfOk r (λ n. n ≡ size) → at + 2 + size ≤ end → IfOk r (λ n. at + 2 + n ≤ end)
-inside at size end (Ok n) e h = omega arith
-inside at size end (Err f) e h = tt

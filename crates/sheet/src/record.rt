@@ -12,15 +12,11 @@ fn record_size(sheet: &[u8], at: usize) -> Option<usize>
     ensures value { result ≡ record_size sheet.now at }
     ensures within { IfSome result (λ size. at + 2 + size ≤ length sheet.now) }
 {
-    let present = sheet.len() - at;
-    if present < 2 {
+    let [high, low, rest @ ..] = &sheet[at..] else {
         return None;
-    }
-    let size = usize::from(sheet[at]) * 256 + usize::from(sheet[at + 1]);
-    if present - 2 < size {
-        return None;
-    }
-    Some(size)
+    };
+    let size = usize::from(u16::from_be_bytes([*high, *low]));
+    (size <= rest.len()).then_some(size)
 }
 
 // Tests a frame in the code that the call names.
@@ -54,15 +50,11 @@ pub(crate) fn test_record(code: Code, sheet: &[u8], at: usize, space: usize) -> 
     ensures value { result ≡ tested_record code space sheet.now at }
     ensures within { IfOk result (λ size. at + 2 + size ≤ length sheet.now) }
 {
-    match record_size(sheet, at) {
-        Some(size) => {
-            let front = at + 2;
-            let header = read_header(code, &sheet[front..front + size], space)?;
-            frame_alone(at, size, header.size)
-        }
-        None => Err(Fault {
-            cause: Cause::BadRecord,
-            place: at,
-        }),
-    }
+    let size = record_size(sheet, at).ok_or(Fault {
+        cause: Cause::BadRecord,
+        place: at,
+    })?;
+    let front = at + 2;
+    let header = read_header(code, &sheet[front..front + size], space)?;
+    frame_alone(at, size, header.size)
 }

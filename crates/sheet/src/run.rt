@@ -13,7 +13,7 @@ use server::{Registration, Server, Settings, Window, take_frame};
 use wire::Code;
 
 // Why a run ended.
-#[derive(Clone, Copy)]
+#[derive(Clone, Copy, PartialEq, Eq, Debug)]
 pub enum Reason {
     // no record was left
     Finished,
@@ -24,7 +24,7 @@ pub enum Reason {
 }
 
 // How a run ended: the count of replies without an error, and the place of the next record that was not taken.
-#[derive(Clone, Copy)]
+#[derive(Clone, Copy, PartialEq, Eq, Debug)]
 pub struct RunEnd {
     pub reason: Reason,
     pub count: usize,
@@ -35,7 +35,7 @@ pub struct RunEnd {
 fn has_version(sheet: &[u8]) -> bool
     ensures { result ≡ has_version sheet.now }
 {
-    sheet.len() >= 1 && sheet[0] == 1
+    matches!(sheet, [1, ..])
 }
 
 // Why a run is over before the record at `at`, with so many frames still allowed: no record is left, or no frame is allowed.
@@ -43,12 +43,12 @@ fn over_at(sheet: &[u8], at: usize, allowed: usize) -> Option<Reason>
     ensures { result ≡ over_at sheet.now at allowed }
 {
     if at == sheet.len() {
-        return Some(Reason::Finished);
+        Some(Reason::Finished)
+    } else if allowed == 0 {
+        Some(Reason::Cancelled)
+    } else {
+        None
     }
-    if allowed == 0 {
-        return Some(Reason::Cancelled);
-    }
-    None
 }
 
 // Carries out the records of a sheet while the write flag is on.
@@ -72,19 +72,18 @@ fn run_records<M: WritableMemory>(
         if let Some(reason) = over_at(sheet, at, cancel - count) {
             break reason;
         }
-        match test_record(code, sheet, at, reply.len()) {
-            Ok(size) => {
-                let front = at + 2;
-                at = front + size;
-                let frame = &sheet[front..at];
-                let answer = take_frame(code, frame, reply, memory, settings, registration);
-                if let Some(fault) = answer.fault {
-                    break Reason::Stopped(fault);
-                }
-                count += 1;
-            }
+        let size = match test_record(code, sheet, at, reply.len()) {
+            Ok(size) => size,
             Err(fault) => break Reason::Stopped(fault),
+        };
+        let front = at + 2;
+        at = front + size;
+        let frame = &sheet[front..at];
+        let answer = take_frame(code, frame, reply, memory, settings, registration);
+        if let Some(fault) = answer.fault {
+            break Reason::Stopped(fault);
         }
+        count += 1;
     };
     RunEnd {
         reason,

@@ -1,25 +1,33 @@
-use Rattle.std.proofs.Common.{length, Ok, ◌∙◌}
+use Rattle.std.proofs.Common.{◌≡◌, None, Some, Ok, sym, ap, ◌∙◌}
+use Rattle.std.specs.Option.{ok_or}
+use Rattle.std.specs.Result.{result_ok}
 use Rattle.std.proofs.lemmas.Result.{err_from_is_err_and}
-use Rattle.sheet.proofs.Tests.{cut_off, all_there, inside}
+use Rattle.frame.specs.declared.fault.Cause.TheVariants.{BadRecord}
+use Rattle.frame.specs.Faults.{fault}
+use Rattle.sheet.specs.Records.{record_size}
+use Rattle.sheet.proofs.Tests.{cut_off, all_there}
 use Rattle.sheet.proofs.record.test_record.Goals as goal
 
-pub returns-in_err-header-in-Some : goal.returns-in_err-header-in-Some
-returns-in_err-header-in-Some c =
+pub returns-in_err-size-clause-value : goal.returns-in_err-size-clause-value
+returns-in_err-size-clause-value c =
     let x = c.args in
     let p = err_from_is_err_and c.from_residual.result c.from_residual.ensures.1 in
-    let found = all_there x.code x.space x.sheet.now x.at c.in-Some.size _ c.in-Some.ensures.value c.in_err-header-in-Some.ensures in
-    rw (p.1, p.2) (record { value = found; within = tt })
+    let cut = c.ok_or.ensures.ok_part ∙ ap result_ok c.in_err-size.was in
+    let none : None ≡ record_size x.sheet.now x.at = sym cut ∙ c.record_size.ensures.value in
+    let cause = sym c.in_err-size.was ∙ c.ok_or.ensures.value ∙ ap (λ o. ok_or o (fault BadRecord x.at)) cut in
+    rw (p.1, p.2) (cause ∙ cut_off x.code x.space x.sheet.now x.at none)
 
-pub returns-in_ok-header-in-Some : goal.returns-in_ok-header-in-Some
-returns-in_ok-header-in-Some c =
+pub returns-in_err-header-clause-value : goal.returns-in_err-header-clause-value
+returns-in_err-header-clause-value c =
     let x = c.args in
-    let size = c.in-Some.size in
-    let h = c.in_ok-header-in-Some in
-    let a = c.frame_alone in
-    let found = all_there x.code x.space x.sheet.now x.at size (Ok h.header) c.in-Some.ensures.value h.ensures in
-    record { value = a.ensures.value ∙ found; within = inside x.at size (length x.sheet.now) a.result a.ensures.same c.in-Some.ensures.within }
+    let size = c.in_ok-size.size in
+    let p = err_from_is_err_and c.from_residual-in_err-header.result c.from_residual-in_err-header.ensures.1 in
+    let some : Some size ≡ record_size x.sheet.now x.at = sym (c.ok_or.ensures.ok_part ∙ ap result_ok c.in_ok-size.was) ∙ c.record_size.ensures.value in
+    rw (p.1, p.2) (all_there x.code x.space x.sheet.now x.at size _ some (sym c.in_err-header.was ∙ c.read_header.ensures))
 
-pub returns-in-None : goal.returns-in-None
-returns-in-None c =
+pub returns-clause-value : goal.returns-clause-value
+returns-clause-value c =
     let x = c.args in
-    record { value = cut_off x.code x.space x.sheet.now x.at c.in-None.ensures.value; within = tt }
+    let size = c.in_ok-size.size in
+    let some : Some size ≡ record_size x.sheet.now x.at = sym (c.ok_or.ensures.ok_part ∙ ap result_ok c.in_ok-size.was) ∙ c.record_size.ensures.value in
+    c.frame_alone.ensures.value ∙ all_there x.code x.space x.sheet.now x.at size (Ok c.in_ok-header.header) some (sym c.in_ok-header.was ∙ c.read_header.ensures)
