@@ -16,7 +16,7 @@ use memory::ReadableMemory;
 use wire::WireCode;
 
 // What a call answers: how many bytes of the frame it took, how long the reply is, and any fault.
-#[derive(Clone, Copy)]
+#[derive(Clone, Copy, PartialEq, Eq, Debug)]
 pub struct Answer {
     pub taken: usize,
     pub length: usize,
@@ -53,7 +53,7 @@ pub(crate) fn refuse<C: WireCode>(reply: &mut [u8], header: Header, fault: Fault
     }
 }
 
-// The reply to a batch read in words.
+// The reply to a batch read in words. It and the next are apart, since a function that takes the size and what writes the data would be no shorter.
 pub(crate) fn show_words<C: WireCode, M: ReadableMemory>(
     reply: &mut [u8],
     header: Header,

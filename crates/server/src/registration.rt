@@ -17,6 +17,7 @@ pub struct Registration {
     // how many accesses are registered; absent until the first accepted registration
     count: Option<usize>,
     words: usize,
+    // a plain array with the counts beside it, since a registration is copied and takes no memory from the heap
     entries: [Access; 192],
     ghost few: { counted count ≤ 192 },
     ghost part: { words ≤ counted count },

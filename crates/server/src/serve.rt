@@ -18,7 +18,7 @@ use memory::{ReadableMemory, WritableMemory};
 use request::{Request, read_request};
 use wire::{Ascii, Binary, Code, WireCode};
 
-// Carries out a request that passed its tests.
+// Carries out a request that passed its tests. Memory, settings and registration are apart here and below, since a window lends the settings while the others are written.
 fn carry_out<C: WireCode, M: WritableMemory>(
     reply: &mut [u8],
     header: Header,

@@ -27,10 +27,8 @@ fn put_sixteen<M: WritableMemory>(memory: &mut M, device: Device, number: u32, v
     ensures means { M.ReadableMemory.means memory.new ≡ tried (M.ReadableMemory.means memory.old) (spread device number 16 value) }
     ensures keeps { M.ReadableMemory.keeps memory.old memory.new }
 {
-    let mut rest = value;
     for i in 0..16u32 {
-        put_point(memory, device, number + i, rest % 2);
-        rest /= 2;
+        put_point(memory, device, number + i, (value >> i) % 2);
     }
 }
 
@@ -78,7 +76,7 @@ pub(crate) fn put_bits<C: WireCode, M: WritableMemory>(
     }
 }
 
-// Gives words one behind the other the values of word data.
+// Gives words one behind the other the values of word data. This walk, that of `put_settings` and that of a registration's `fill` read other entries and do other things with them: a walk that takes both as closures is longer than its loop.
 pub(crate) fn put_words<C: WireCode, M: WritableMemory>(
     memory: &mut M,
     device: Device,

@@ -44,10 +44,7 @@ impl Drop for Window<'_> {
         ensures back { self.exit.0.now.write_flag ≡ self.entry.was }
         ensures carries { (m : Meaning) (g : Option Listed) → CarriesOn (state m self.entry.settings.now.write_flag (Some self.entry.was) g) ending (window (Some self.exit.0.now.write_flag)) (state m self.exit.0.now.write_flag None g) }
     {
-        self.settings.write_flag = self.was;
-        let Window {
-            settings: _,
-            was: _,
-        } = self;
+        let Window { settings, was } = self;
+        settings.write_flag = was;
     }
 }

@@ -48,6 +48,14 @@ pub(crate) fn listed<C: WireCode>(list: &[u8], words: usize, doubles: usize) -> 
     }
 }
 
+impl Default for Registration {
+    fn default() -> Registration
+        ensures { registered result ≡ None }
+    {
+        Registration::new()
+    }
+}
+
 impl Registration {
     // Nothing is registered.
     pub fn new() -> Registration
