@@ -1,6 +1,5 @@
 -- Bit points packed into a word, one point more at a turn.
-use Rattle.std.proofs.Common.{◌≡◌, ℕ, ◌+◌, ◌-◌, ◌*◌, ◌^◌, ◌<◌, ◌≤◌, pow-suc, add-one, arith, lit<}
-use native.Mathlib.Nat.{pow-le-pow_right}
+use Rattle.std.proofs.Common.{◌≡◌, ℕ, ◌+◌, ◌-◌, ◌*◌, ◌^◌, ◌<◌, ◌≤◌, pow-suc, add-one, arith}
 use Rattle.device.specs.declared.types.Device.{Device}
 use Rattle.server.specs.Points.{Values, packed}
 
@@ -15,6 +14,3 @@ module _ (V : Values) (d : Device) (n i w b : ℕ) (pos : 0 < i) (few : i ≤ 16
   packed_below h g =
       let one : 16 - (i - 1) ≡ 16 - i + 1 = omega arith in
       rw (one, add-one (16 - i), pow-suc 2 (16 - i)) (omega arith)
-
-pub fifteen : (k : ℕ) → k ≤ 15 → 2 ^ k ≤ 32768
-fifteen k h = pow-le-pow_right (lit< tt) h

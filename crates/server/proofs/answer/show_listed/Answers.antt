@@ -1,14 +1,10 @@
-use Rattle.std.proofs.Common.{◌≡◌, ℕ, ◌+◌, ◌*◌, ◌≤◌, List, ◌++◌, length, None, sym, ap, ◌∙◌, subst, arith, length-append}
+use Rattle.std.proofs.Common.{◌≡◌, ℕ, ◌+◌, ◌*◌, List, ◌++◌, length, None, sym, ap, ◌∙◌, subst, arith, length-append}
 use lib.Seq.{sets}
 use Rattle.device.specs.declared.types.Device.{Device}
-use Rattle.wire.specs.declared.code.Code.{Code}
-use Rattle.wire.specs.declared.code.Code.TheVariants.{Binary, Ascii}
 use Rattle.wire.specs.Numbers.{per_byte}
 use Rattle.wire.specs.Series.{values_bytes}
 use Rattle.wire.proofs.Places.{sets_sets}
-use Rattle.frame.specs.declared.header.Form.{Form}
-use Rattle.frame.specs.declared.header.Form.TheVariants.{ThreeE, FourE}
-use Rattle.frame.specs.Replies.{head_size, reply_bytes}
+use Rattle.frame.specs.Replies.{reply_bytes}
 use Rattle.server.specs.declared.points.Width.TheVariants.{Word, Double}
 use Rattle.server.specs.Points.{values_of}
 use Rattle.server.specs.Registered.{accesses, doubles_in}
@@ -16,27 +12,6 @@ use Rattle.server.specs.Serves.{Tells}
 use Rattle.server.proofs.Shows.{length_values, length_values_of}
 use Rattle.server.proofs.Telling.{told}
 use Rattle.server.proofs.answer.show_listed.Goals as goal
-
--- the longest list of a reply has room
-short : (code : Code) (form : Form) (w d : ℕ) → w ≤ 192 → d ≤ 192 → head_size form * per_byte code + w * (2 * per_byte code) + d * (4 * per_byte code) ≤ 4096
-short Binary ThreeE w d few few2 = omega arith
-short Binary FourE w d few few2 = omega arith
-short Ascii ThreeE w d few few2 = omega arith
-short Ascii FourE w d few few2 = omega arith
-
-pub returns-clause-fits : goal.returns-clause-fits
-returns-clause-fits g c =
-    let ws = c.words-words.result.now in
-    let ds = c.doubles-doubles.result.now in
-    omega (
-      arith,
-      c.accepted.ensures.length,
-      c.write_accesses-length.ensures.end,
-      c.write_accesses-at_doubles.ensures.end,
-      short g.C.WireCode.which c.args.header.form (length ws) (length ds) c.words-words.ensures.few c.doubles-doubles.ensures.few,
-      c.write_head-at.ensures.end,
-      c.requires,
-    )
 
 pub returns-clause-tells : goal.returns-clause-tells
 returns-clause-tells g c =

@@ -1,13 +1,6 @@
 use Rattle.std.proofs.Common.{◌+◌, ◌-◌, ◌<◌, arith}
-use Rattle.server.proofs.Packs.{packed_turn, packed_below, fifteen}
+use Rattle.server.proofs.Packs.{packed_turn, packed_below}
 use Rattle.server.proofs.points.sixteen.Goals as goal
-
-pub with_bit-word-requires : goal.with_bit-word-requires
-with_bit-word-requires g c =
-    let i = c.loop-i.i in (
-      omega (arith, c.loop-i.invariant.1, fifteen (16 - i) (omega arith)),
-      rw c.value_at.ensures (g.M.ReadableMemory.sound.narrow c.args.memory.now c.args.device (c.args.number + (i - 1)) c.requires.0),
-    )
 
 pub loop-i-preserved : goal.loop-i-preserved
 loop-i-preserved g c =

@@ -1,17 +1,12 @@
-use Rattle.std.proofs.Common.{IfOk, Ok, sym, subst, arith}
+use Rattle.std.proofs.Common.{Ok, sym, subst}
 use Rattle.request.specs.declared.types.Request.{Request}
-use Rattle.request.specs.Laws.{Passed, Bounded}
-use Rattle.request.specs.Readings.{held, said}
+use Rattle.request.specs.Laws.{Passed}
+use Rattle.request.specs.Readings.{said}
 use Rattle.server.specs.Serves.{Came, answered}
 use Rattle.server.specs.Registered.{registered}
 use Rattle.server.proofs.Telling.{came_wrote}
 use Rattle.server.proofs.Taken.{bits_written, words_written, random_bits_written, random_written}
 use Rattle.server.proofs.serve.carry_out.Goals as goal
-
-pub put_random-requires : goal.put_random-requires
-put_random-requires g c =
-    let b = subst (λ (q : Request). IfOk (held (Ok q)) (Bounded (g.M.ReadableMemory.means c.args.memory.now))) c.in-WriteRandom.is c.requires.bounded in
-    omega (arith, b.1)
 
 pub returns-in-WriteBits : goal.returns-in-WriteBits
 returns-in-WriteBits g c =
@@ -75,3 +70,6 @@ returns-in-WriteRandom g c =
       keeps = put.keeps;
       fits = a.ensures.fits;
     }
+
+pub returns-in-Monitor-clause-keeps : goal.returns-in-Monitor-clause-keeps
+returns-in-Monitor-clause-keeps g c = g.M.ReadableMemory.sound.kept_same c.args.memory.now

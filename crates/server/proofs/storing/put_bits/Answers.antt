@@ -5,13 +5,6 @@ use Rattle.server.proofs.Trying.{tried_none, tried_more}
 use Rattle.server.proofs.Listing.{bits_more}
 use Rattle.server.proofs.storing.put_bits.Goals as goal
 
-pub loop-i-init : goal.loop-i-init
-loop-i-init g c =
-    let x = c.args in
-    let start : x.number + 0 ≡ x.number = omega arith in
-    let all : x.count - 0 ≡ x.count = omega arith in
-    ((λ i. tried (g.M.ReadableMemory.means x.memory.now) (in_row x.device (start i) (bits_in g.C.WireCode.which x.bytes.now 0 (all i)))), g.M.ReadableMemory.sound.kept_same x.memory.now)
-
 pub loop-i-preserved : goal.loop-i-preserved
 loop-i-preserved g c =
     let x = c.args in
@@ -24,13 +17,10 @@ loop-i-preserved g c =
       g.M.ReadableMemory.sound.kept_on _ _ _ l.invariant.1 c.put_point.ensures.keeps,
     )
 
-pub returns : goal.returns
-returns g c =
+pub returns-clause-means : goal.returns-clause-means
+returns-clause-means g c =
     let x = c.args in
     let l = c.loop-i in
     let m = g.M.ReadableMemory.means in
     let none : x.count - l.i ≡ 0 = omega arith in
-    record {
-      means = sym (ap (λ k. tried (m l.memory) (in_row x.device (x.number + l.i) (bits_in g.C.WireCode.which x.bytes.now l.i k))) none ∙ tried_none (m l.memory)) ∙ l.invariant.0;
-      keeps = l.invariant.1;
-    }
+    sym (ap (λ k. tried (m l.memory) (in_row x.device (x.number + l.i) (bits_in g.C.WireCode.which x.bytes.now l.i k))) none ∙ tried_none (m l.memory)) ∙ l.invariant.0

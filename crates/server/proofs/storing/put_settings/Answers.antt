@@ -44,14 +44,10 @@ loop-preserved g c =
       (λ e. l.invariant.2 (subst (Each (λ s. s.1 < 256 ^ bytes_of x.width)) (sym got) (ap-small c.bytes.ensures.value q.ensures.within.2, e))),
     )
 
-pub returns : goal.returns
-returns g c =
+pub returns-clause-means : goal.returns-clause-means
+returns-clause-means g c =
     let x = c.args in
     let l = c.loop in
     let m = g.M.ReadableMemory.means l.memory in
     let none = in_none_left (setting_in g.C.WireCode.which (bytes_of x.width)) (drop l.place x.list.now) x.count l.counter (omega arith) in
-    record {
-      means = sym (ap (λ ss. tried m (each (as_width x.width) ss)) none ∙ tried_none m) ∙ l.invariant.0;
-      keeps = l.invariant.1;
-      small = l.invariant.2 (subst (Each (λ s. s.1 < 256 ^ bytes_of x.width)) (sym none) tt);
-    }
+    sym (ap (λ ss. tried m (each (as_width x.width) ss)) none ∙ tried_none m) ∙ l.invariant.0

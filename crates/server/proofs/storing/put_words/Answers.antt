@@ -40,14 +40,10 @@ loop-i-preserved g c =
       (λ e. l.invariant.2 (subst (Each (λ v. v < 65536)) (sym got) (small, e))),
     )
 
-pub returns : goal.returns
-returns g c =
+pub returns-clause-means : goal.returns-clause-means
+returns-clause-means g c =
     let x = c.args in
     let l = c.loop-i in
     let m = g.M.ReadableMemory.means l.memory in
     let none = in_none_left (number_in g.C.WireCode.which 2) (drop l.place x.bytes.now) x.count l.i (omega arith) in
-    record {
-      means = sym (ap (λ vs. tried m (as_words x.device (x.number + l.i * points (kind_of x.device) 1) vs)) none ∙ tried_none m) ∙ l.invariant.0;
-      keeps = l.invariant.1;
-      small = l.invariant.2 (subst (Each (λ v. v < 65536)) (sym none) tt);
-    }
+    sym (ap (λ vs. tried m (as_words x.device (x.number + l.i * points (kind_of x.device) 1) vs)) none ∙ tried_none m) ∙ l.invariant.0

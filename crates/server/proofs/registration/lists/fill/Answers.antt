@@ -1,8 +1,8 @@
-use Rattle.std.proofs.Common.{length, drop, sym, ap, ◌∙◌, arith}
+use Rattle.std.proofs.Common.{length, sym, ap, ◌∙◌, arith}
 use Rattle.std.proofs.lemmas.List.{set-get_or}
 use lib.Seq.{sets}
 use Rattle.request.specs.Entries.{access_in}
-use Rattle.request.proofs.Turns.{in_goes_on, in_stops, in_none_left}
+use Rattle.request.proofs.Turns.{in_goes_on, in_stops}
 use Rattle.server.specs.Registered.{accesses}
 use Rattle.server.proofs.Listing.{fill_turn}
 use Rattle.server.proofs.registration.lists.fill.Goals as goal
@@ -22,10 +22,3 @@ loop-entry-preserved g c =
     let q = c.in-Ok in
     let got = in_goes_on (access_in g.C.WireCode.which) x.list.now (length x.entries.now) l.entry-index l.place (omega arith) _ (sym (sym q.is ∙ c.access_at.ensures.value)) in
     fill_turn l.entry-items l.entry-index (record { device = q.device; number = q.number }) _ _ got ∙ l.invariant
-
-pub returns : goal.returns
-returns g c =
-    let x = c.args in
-    let l = c.loop-entry in
-    let none = in_none_left (access_in g.C.WireCode.which) (drop l.place x.list.now) (length x.entries.now) l.entry-index (omega arith) in
-    sym (ap (sets (accesses l.entry-items) l.entry-index) none) ∙ l.invariant
