@@ -102,11 +102,6 @@ ran_flag s₀ ms os m flag flag' g e r = subst (λ f. Ran s₀ ms os (state m f 
 pub reached_flag : (s₀ : State) (ms : List Move) (os : List Shown) (m : Meaning) (flag flag' : Bool) (g : Option Listed) → flag ≡ flag' → Reached s₀ ms os (state m flag None g) → Reached s₀ ms os (state m flag' None g)
 reached_flag s₀ ms os m flag flag' g e r = subst (λ f. Reached s₀ ms os (state m f None g)) e r
 
--- what is left where nothing more was carried out
-pub same_left : (s₀ : State) (ms : List Move) (os : List Shown) (m m' : Meaning) (flag : Bool) (b : Option Bool) (g g' : Option Listed) → m' ≡ m → g' ≡ g
-    → Reached s₀ ms os (state m flag b g) → Reached s₀ ms os (state m' flag b g')
-same_left s₀ ms os m m' flag b g g' p q r = record { showed = r.showed; led = (λ i. state (p i) flag b (q i)) ∙ r.led }
-
 -- the end of a list ends a window
 pub in_window : (s₀ : State) (ms : List Move) (os : List Shown) (m : Meaning) (was : Bool) (g : Option Listed) → Reached s₀ ms os (state m true (Some was) g) → Ran s₀ ms os (state m was None g)
 in_window s₀ ms os m was g r = record { showed = r.showed; left = ap (λ s. closed s) r.led }
