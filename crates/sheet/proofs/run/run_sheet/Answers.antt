@@ -1,4 +1,4 @@
-use Rattle.std.proofs.Common.{Some, refl}
+use Rattle.std.proofs.Common.{Some}
 use Rattle.server.specs.Registered.{registered}
 use Rattle.sheet.proofs.Histories.{whole, no_version, onward}
 use Rattle.sheet.proofs.run.run_sheet.Goals as goal
@@ -14,9 +14,9 @@ returns g c =
     let w = whole x.code x.sheet.now x.cancel t.result x.reply.now t.new.reply (m s.memory) (m t.new.memory) flag _ (registered s.registration) (registered t.new.registration) c.if-not-has_version.ensures e.flag (e.ends (Some flag)) in
     record { ends = w.ends; space = w.space; flag = e.flag; keeps = e.keeps; history = w.history; onward = onward _ _ _ _ _ _ _ _ w.history.reached }
 
-pub returns-then-not-has_version : goal.returns-then-not-has_version
-returns-then-not-has_version g c =
+pub returns-then-not-has_version-clause-onward : goal.returns-then-not-has_version-clause-onward
+returns-then-not-has_version-clause-onward g c =
     let x = c.args in
     let s = x.server.now in
     let w = no_version x.code x.sheet.now x.cancel x.reply.now (g.M.ReadableMemory.means s.memory) s.settings.write_flag (registered s.registration) c.if-not-has_version.ensures in
-    record { ends = w.ends; space = w.space; flag = refl; keeps = g.M.ReadableMemory.sound.kept_same s.memory; history = w.history; onward = onward _ _ _ _ _ _ _ _ w.history.reached }
+    onward _ _ _ _ _ _ _ _ w.history.reached
