@@ -1,5 +1,6 @@
 -- Digits read and written turn by turn.
-use Rattle.std.proofs.Common.{◌≡◌, ℕ, suc, ◌+◌, ◌*◌, ◌/◌, ◌%◌, ◌<◌, List, [], ◌∷◌, ◌++◌, length, get_or, drop, Some, None, Option, sym, refl, ap, ◌∙◌, append_assoc, arith}
+use Rattle.std.proofs.Common.{◌≡◌, ℕ, suc, ◌+◌, ◌*◌, ◌/◌, ◌%◌, ◌<◌, ◌≤◌, ◌-◌, List, [], ◌∷◌, ◌++◌, length, get_or, take, drop, Some, None, Option, sym, refl, ap, ◌∙◌, append_assoc, arith}
+use Rattle.std.proofs.Math.Seq.{take-length}
 use Rattle.std.proofs.lemmas.List.{drop_more}
 use Rattle.std.proofs.lemmas.Bool.Decides.{nat_tests}
 use Rattle.wire.specs.Numbers.{hex_char}
@@ -29,17 +30,13 @@ odd [] h = grind (arith, nat_tests)
 odd (a ∷ []) h = refl
 odd (a ∷ b ∷ xs) h = ap (before (byte_value a b)) (odd xs (omega arith)) ∙ never (byte_value a b)
 
--- the two digits at a place, and those behind them
-pub two : (xs : List ℕ) (i : ℕ) → 2 * i + 1 < length xs → drop (2 * i) xs ≡ get_or xs (2 * i) 0 ∷ get_or xs (2 * i + 1) 0 ∷ drop (2 * (i + 1)) xs
-two xs i h =
-    let e : 2 * i + 1 + 1 ≡ 2 * (i + 1) = omega arith in
-    drop_more xs (2 * i) 0 (omega arith)
-    ∙ ap (λ ys. get_or xs (2 * i) 0 ∷ ys) (drop_more xs (2 * i + 1) 0 h)
-    ∙ ap (λ n. get_or xs (2 * i) 0 ∷ get_or xs (2 * i + 1) 0 ∷ drop n xs) e
-
 -- one turn of reading
-pub turn_read : (xs items : List ℕ) (i : ℕ) → 2 * i + 1 < length xs → bytes_in xs ≡ ahead items (bytes_in (drop (2 * i) xs)) → bytes_in xs ≡ ahead items (before (byte_value (get_or xs (2 * i) 0) (get_or xs (2 * i + 1) 0)) (bytes_in (drop (2 * (i + 1)) xs)))
-turn_read xs items i h inv = inv ∙ ap (λ ys. ahead items (bytes_in ys)) (two xs i h)
+pub turn_read : (xs items rest : List ℕ) → 2 ≤ length rest → bytes_in xs ≡ ahead items (bytes_in rest) → bytes_in xs ≡ ahead items (before (byte_value (get_or rest 0 0) (get_or rest 1 0)) (bytes_in (take (length rest - 2) (drop 2 rest))))
+turn_read xs items [] h inv = grind arith
+turn_read xs items (a ∷ []) h inv = grind arith
+turn_read xs items (a ∷ b ∷ rest) h inv =
+    let e : suc (suc (length rest)) - 2 ≡ length rest = omega arith in
+    inv ∙ ap (λ ys. ahead items (before (byte_value a b) (bytes_in ys))) (sym (ap (λ n. take n rest) e ∙ take-length rest))
 
 -- a byte that was written reads as itself
 pub digit_back : (d : ℕ) → d < 16 → digit_value (hex_char d) ≡ Some d

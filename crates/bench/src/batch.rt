@@ -20,13 +20,9 @@ fn call_of<'a>(line: &'a Line, fill: &'a [u8]) -> Option<Call<'a>>
             bytes: bytes.as_slice(),
             space: &fill[0..space.bytes],
         }),
-        Line::Set {
-            device,
-            number,
-            value,
-        } => Some(Call::Set {
-            device: *device,
-            number: *number,
+        Line::Set { point, value } => Some(Call::Set {
+            device: point.device,
+            number: point.number,
             value: *value,
         }),
         Line::Open => Some(Call::Open),

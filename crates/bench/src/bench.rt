@@ -3,11 +3,10 @@ use crate::line::Line;
 use crate::registered::Registered;
 use crate::space::or_dash;
 use crate::storage::Storage;
-use crate::words::{Extent, Named, Point, Value, flag_name};
+use crate::words::{Extent, Named, Point, flag_name};
 use device::{DEVICES, Device};
 use memory::{Locked, Range, ReadableMemory, WritableMemory};
 use server::{Registration, Server, Settings};
-use std::alloc::Global;
 use std::io;
 
 #[derive(Drop)]
@@ -15,16 +14,17 @@ pub struct Bench<M> {
     pub server: Server<Locked<M>>,
     // whether a calibration window is open
     pub window: bool,
-    pub registered: Registered,
+    // the last registration that was accepted, if there is one
+    pub registered: Option<Registered>,
 }
 
 impl<M: WritableMemory + Storage> Bench<M> {
     // A bench over a memory: no locks, writing off, nothing registered, no window.
-    pub fn new(heap: Global, memory: M) -> Bench<M> {
+    pub fn new(memory: M) -> Bench<M> {
         Bench {
             server: Server::new(Locked::new(memory), false),
             window: false,
-            registered: Registered::new(heap),
+            registered: None,
         }
     }
 
@@ -33,7 +33,7 @@ impl<M: WritableMemory + Storage> Bench<M> {
         match line {
             Line::Lock(range) => self.lock(rt, *range),
             Line::Server(write_flag) => self.set_up(rt, *write_flag),
-            Line::Look { device, number } => self.look(rt, *device, *number),
+            Line::Look(point) => self.look(rt, *point),
             Line::Run {
                 code,
                 cancel,
@@ -77,7 +77,7 @@ impl<M: WritableMemory + Storage> Bench<M> {
     pub fn set_up(&mut self, rt: &HostRuntime, write_flag: bool) -> io::Result<()> {
         self.server.settings = Settings { write_flag };
         self.server.registration = Registration::new();
-        self.registered.forget();
+        self.registered = None;
         let flag = flag_name(write_flag);
         println!(rt; "server ok")?;
         println!(rt;
@@ -97,25 +97,23 @@ impl<M: WritableMemory + Storage> Bench<M> {
         }
     }
 
-    pub fn look(&self, rt: &HostRuntime, device: Device, number: u32) -> io::Result<()> {
-        let point = Named(Point { device, number });
-        match self.server.memory.read(device, number) {
+    pub fn look(&self, rt: &HostRuntime, point: Point) -> io::Result<()> {
+        let device = point.device;
+        let named = Named(point);
+        match self.server.memory.read(device, point.number) {
             None => {
                 let extent = self.extent_of(device);
                 println!(rt; "look outside")?;
-                println!(rt; "  {point} lies outside: {extent}")
+                println!(rt; "  {named} lies outside: {extent}")
             }
             Some(value) => {
-                let shown = Value {
-                    kind: device.kind(),
-                    value,
-                };
-                if self.server.memory.is_open(device, number) {
+                let shown = point.holding(value);
+                if self.server.memory.is_open(device, point.number) {
                     println!(rt; "look {value} open")?;
-                    println!(rt; "  {point} holds {shown} and is open to writing")
+                    println!(rt; "  {named} holds {shown} and is open to writing")
                 } else {
                     println!(rt; "look {value} closed")?;
-                    println!(rt; "  {point} holds {shown} and is locked against writing")
+                    println!(rt; "  {named} holds {shown} and is locked against writing")
                 }
             }
         }
@@ -145,7 +143,7 @@ impl<M: WritableMemory + Storage> Bench<M> {
                 println!(rt; "  writing by frames is {flag}{why}; {count} accesses are registered")
             }
         }?;
-        for row in DEVICES {
+        for row in &DEVICES {
             self.tell_points(rt, row.device)?;
         }
         Ok(())
@@ -158,10 +156,7 @@ impl<M: WritableMemory + Storage> Bench<M> {
             let value = self.server.memory.read(device, number).unwrap_or(0);
             if value != 0 {
                 let point = Point { device, number };
-                let shown = Value {
-                    kind: device.kind(),
-                    value,
-                };
+                let shown = point.holding(value);
                 if told >= 32 {
                     return println!(rt; ", and more");
                 }

@@ -1,63 +1,69 @@
 // Cutting a line into words.
 ghost use Rattle.std.specs.Prelude.{◌≤◌, length};
 
-// Where a byte stands first, and the length where it does not.
-pub fn find(text: &[u8], byte: u8) -> usize
-    ensures { result ≤ length text.now }
-{
-    for (i, other) in text.iter().enumerate() {
-        if *other == byte {
-            return i;
-        }
-    }
-    text.len()
+use crate::expected::Expected;
+
+// What stands before the first byte of this value, and what stands behind it; none where there is no such byte.
+pub fn split_once(text: &[u8], byte: u8) -> Option<(&[u8], &[u8])> {
+    let (front, rest) = text.split_at(length_until(text, |other| other == byte));
+    Some((front, rest.strip_prefix(&[byte])?))
 }
 
-// What stands behind the byte at `end`; nothing where that is the end.
-pub fn behind(text: &[u8], end: usize) -> &[u8] {
-    if end < text.len() {
-        &text[end + 1..]
-    } else {
-        &text[text.len()..]
-    }
+// How many bytes stand before the first one that a test takes: all of them, where it takes none.
+fn length_until<F: Fn(u8) -> bool>(text: &[u8], test: F) -> usize
+    requires { F.IsAlwaysCallable test }
+    ensures { result ≤ length text.now }
+{
+    text.iter()
+        .position(|byte| test(*byte))
+        .unwrap_or(text.len())
 }
 
 fn is_blank(byte: u8) -> bool {
-    byte == b' ' || byte == b'\t' || byte == b'\r'
-}
-
-// How many blanks a text begins with.
-fn blanks(text: &[u8]) -> usize
-    ensures { result ≤ length text.now }
-{
-    for (i, byte) in text.iter().enumerate() {
-        if !is_blank(*byte) {
-            return i;
-        }
-    }
-    text.len()
-}
-
-// How long the word is that a text begins with.
-fn word_length(text: &[u8]) -> usize
-    ensures { result ≤ length text.now }
-{
-    for (i, byte) in text.iter().enumerate() {
-        if is_blank(*byte) {
-            return i;
-        }
-    }
-    text.len()
+    matches!(byte, b' ' | b'\t' | b'\r')
 }
 
 // A text without the blanks at its front.
 pub fn trimmed(text: &[u8]) -> &[u8] {
-    &text[blanks(text)..]
+    &text[length_until(text, |byte| !is_blank(byte))..]
 }
 
-// The first word of a text, and what stands behind it without the blanks between.
-pub fn first_word(text: &[u8]) -> (&[u8], &[u8]) {
-    let word = trimmed(text);
-    let length = word_length(word);
-    (&word[0..length], trimmed(&word[length..]))
+// The words of a line that are not read yet.
+#[derive(Clone, Copy)]
+pub struct Words<'a> {
+    rest: &'a [u8],
+}
+
+impl<'a> Words<'a> {
+    pub fn new(line: &'a [u8]) -> Words<'a> {
+        Words {
+            rest: trimmed(line),
+        }
+    }
+
+    // The next word; an empty one where none is left.
+    pub fn next(&mut self) -> &'a [u8] {
+        let (word, rest) = self.rest.split_at(length_until(self.rest, is_blank));
+        self.rest = trimmed(rest);
+        word
+    }
+
+    // Whether no word is left.
+    pub fn is_empty(self) -> bool {
+        self.rest.is_empty()
+    }
+
+    // All that is left of the line.
+    pub fn rest(self) -> &'a [u8] {
+        self.rest
+    }
+
+    // The end of the line.
+    pub fn ended(self) -> Result<(), Expected> {
+        if self.is_empty() {
+            Ok(())
+        } else {
+            Err(Expected::End)
+        }
+    }
 }

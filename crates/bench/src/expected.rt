@@ -1,5 +1,9 @@
 // What a line of a script should have had where it cannot be read.
+ghost use Rattle.std.specs.Prelude.{◌≡◌};
+ghost use Rattle.bench.specs.declared.expected.Expected.TheVariants.{Memory};
+
 use std::alloc::{AllocError, AllocFailed};
+use std::fmt;
 
 #[derive(Clone, Copy, PartialEq, Eq, Debug)]
 pub enum Expected {
@@ -33,10 +37,10 @@ pub enum Expected {
     Memory,
 }
 
-impl Expected {
-    // The same in words, to stand behind "expected".
-    pub fn words(self) -> &'static str {
-        match self {
+// The same in words, to stand behind "expected".
+impl fmt::Display for Expected {
+    fn fmt<W: fmt::Write>(&self, f: &mut fmt::Formatter<W>) -> fmt::Result {
+        f.write_str(match self {
             Expected::Call => "memory, lock, server, set, look, frame, open, end, run or final",
             Expected::Form => "packed or image",
             Expected::Extents =>
@@ -52,17 +56,21 @@ impl Expected {
             Expected::Quote => "a text between two quotation marks",
             Expected::End => "nothing more on the line",
             Expected::Memory => "a shorter script: no memory is left for this line",
-        }
+        })
     }
 }
 
 impl From<AllocError> for Expected {
+    ghost from_gives = { λ _ expected. expected ≡ Memory };
+
     fn from(_error: AllocError) -> Expected {
         Expected::Memory
     }
 }
 
 impl<T: Drop> From<AllocFailed<T>> for Expected {
+    ghost from_gives = { λ _ expected. expected ≡ Memory };
+
     fn from(_refused: AllocFailed<T>) -> Expected {
         Expected::Memory
     }

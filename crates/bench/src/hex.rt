@@ -23,40 +23,36 @@ fn digit(character: u8) -> Option<u8>
 fn byte_of(high: u8, low: u8) -> Option<u8>
     ensures { result ≡ byte_value high low }
 {
-    match (digit(high), digit(low)) {
-        (Some(h), Some(l)) => Some(16 * h + l),
-        _ => None,
-    }
+    Some(16 * digit(high)? + digit(low)?)
 }
 
 // The bytes of a run of digits, two a byte.
 pub fn read_bytes(heap: Global, text: &[u8]) -> Result<Vec<u8>, Expected>
     ensures { MatchResult result (λ v. bytes_in text.now ≡ Some v.items) (λ e. e ≡ Hex → bytes_in text.now ≡ None) }
 {
-    if text.len() % 2 == 1 {
-        return Err(Expected::Hex);
-    }
     let mut bytes = Vec::new(heap);
-    for i in 0..text.len() / 2 {
-        let Some(byte) = byte_of(text[2 * i], text[2 * i + 1]) else {
-            return Err(Expected::Hex);
-        };
-        if bytes.push(byte).is_err() {
-            return Err(Expected::Memory);
-        }
+    let mut rest = text;
+    while let [high, low, behind @ ..] = rest {
+        let byte = byte_of(*high, *low).ok_or(Expected::Hex)?;
+        bytes.push(byte)?;
+        rest = behind;
     }
-    Ok(bytes)
+    match rest {
+        [] => Ok(bytes),
+        _ => Err(Expected::Hex),
+    }
 }
 
 // The words of a run of digits, four a word, the highest first.
 pub fn read_words(heap: Global, text: &[u8]) -> Result<Vec<u16>, Expected> {
     let bytes = read_bytes(heap, text)?;
-    if bytes.len() % 2 == 1 {
+    let pairs = bytes.as_slice().chunks_exact(2);
+    if !pairs.remainder().is_empty() {
         return Err(Expected::Words);
     }
     let mut words = Vec::new(heap);
-    for i in 0..bytes.len() / 2 {
-        words.push(256 * bytes[2 * i] as u16 + bytes[2 * i + 1] as u16)?;
+    for pair in pairs {
+        words.push(u16::from_be_bytes([pair[0], pair[1]]))?;
     }
     Ok(words)
 }

@@ -1,12 +1,12 @@
 // A line of a script.
-use crate::cutting::first_word;
+use crate::cutting::Words;
 use crate::expected::Expected;
 use crate::extents::read_memory;
 use crate::frames::{read_frame, read_run};
 use crate::numbers::{read_number, read_value};
-use crate::parts::{ended, read_symbol};
+use crate::parts::read_point;
 use crate::size::SpaceSize;
-use device::Device;
+use crate::words::Point;
 use memory::Range;
 use std::alloc::Global;
 use wire::Code;
@@ -27,14 +27,10 @@ pub enum Line {
     // a server set up with this write flag
     Server(bool),
     Set {
-        device: Device,
-        number: u32,
+        point: Point,
         value: u16,
     },
-    Look {
-        device: Device,
-        number: u32,
-    },
+    Look(Point),
     Frame {
         code: Code,
         space: SpaceSize,
@@ -56,79 +52,57 @@ pub enum Line {
 }
 
 // D 3 9
-fn read_lock(line: &[u8]) -> Result<Line, Expected> {
-    let (symbol, rest) = first_word(line);
-    let device = read_symbol(symbol)?;
-    let (first, rest) = first_word(rest);
-    let first = read_number(first)?;
-    let (last, rest) = first_word(rest);
-    let last = read_number(last)?;
-    ended(rest)?;
+fn read_lock(words: &mut Words<'_>) -> Result<Line, Expected> {
+    let first = read_point(words)?;
     Ok(Line::Lock(Range {
-        device,
-        first,
-        last,
+        device: first.device,
+        first: first.number,
+        last: read_number(words.next())?,
     }))
 }
 
 // on, or off
-fn read_server(line: &[u8]) -> Result<Line, Expected> {
-    let (flag, rest) = first_word(line);
-    let write_flag = match flag {
-        b"on" => true,
-        b"off" => false,
-        _ => return Err(Expected::Flag),
-    };
-    ended(rest)?;
-    Ok(Line::Server(write_flag))
+fn read_server(words: &mut Words<'_>) -> Result<Line, Expected> {
+    match words.next() {
+        b"on" => Ok(Line::Server(true)),
+        b"off" => Ok(Line::Server(false)),
+        _ => Err(Expected::Flag),
+    }
 }
 
 // D 2 4660
-fn read_set(line: &[u8]) -> Result<Line, Expected> {
-    let (symbol, rest) = first_word(line);
-    let device = read_symbol(symbol)?;
-    let (number, rest) = first_word(rest);
-    let number = read_number(number)?;
-    let (value, rest) = first_word(rest);
-    let value = read_value(value)?;
-    ended(rest)?;
+fn read_set(words: &mut Words<'_>) -> Result<Line, Expected> {
     Ok(Line::Set {
-        device,
-        number,
-        value,
+        point: read_point(words)?,
+        value: read_value(words.next())?,
     })
 }
 
-// D 2
-fn read_look(line: &[u8]) -> Result<Line, Expected> {
-    let (symbol, rest) = first_word(line);
-    let device = read_symbol(symbol)?;
-    let (number, rest) = first_word(rest);
-    let number = read_number(number)?;
-    ended(rest)?;
-    Ok(Line::Look { device, number })
-}
-
-// A line of one word alone.
-fn read_alone(rest: &[u8], line: Line) -> Result<Line, Expected> {
-    ended(rest)?;
-    Ok(line)
+// Reads a line by its first word, up to what has to be its end.
+fn read_plain(name: &[u8], words: &mut Words<'_>) -> Result<Line, Expected> {
+    match name {
+        b"lock" => read_lock(words),
+        b"server" => read_server(words),
+        b"set" => read_set(words),
+        b"look" => Ok(Line::Look(read_point(words)?)),
+        b"open" => Ok(Line::Open),
+        b"end" => Ok(Line::End),
+        b"final" => Ok(Line::Final),
+        _ => Err(Expected::Call),
+    }
 }
 
 // Reads a line by its first word.
 pub fn read_line(heap: Global, line: &[u8]) -> Result<Line, Expected> {
-    let (name, rest) = first_word(line);
-    match name {
-        b"memory" => read_memory(heap, rest),
-        b"lock" => read_lock(rest),
-        b"server" => read_server(rest),
-        b"set" => read_set(rest),
-        b"look" => read_look(rest),
-        b"frame" => read_frame(heap, rest),
-        b"open" => read_alone(rest, Line::Open),
-        b"end" => read_alone(rest, Line::End),
-        b"run" => read_run(heap, rest),
-        b"final" => read_alone(rest, Line::Final),
-        _ => Err(Expected::Call),
+    let mut words = Words::new(line);
+    match words.next() {
+        b"memory" => read_memory(heap, words),
+        b"frame" => read_frame(heap, words),
+        b"run" => read_run(heap, words),
+        name => {
+            let line = read_plain(name, &mut words)?;
+            words.ended()?;
+            Ok(line)
+        }
     }
 }

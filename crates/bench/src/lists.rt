@@ -1,36 +1,27 @@
 // The lists of accesses that a request carries, in plain words.
 ghost use Rattle.std.specs.Prelude.{◌^◌, ◌<◌};
 
-use crate::fields;
-use crate::values::{plural, tell_comma, tell_double, tell_more, tell_unread, tell_word};
+use crate::coded::Coded;
+use crate::reading::{Reading, plural, tell_comma, tell_more, tell_unread};
+use crate::width::Width;
 use crate::words::Point;
 use device::{Device, Kind};
-use std::io;
-use wire::Code;
-
-// How much an access reaches.
-#[derive(Clone, Copy)]
-pub enum Width {
-    Bit,
-    Word,
-    Double,
-}
+use std::{fmt, io};
 
 // A list: so many bits or words, and behind them so many double words.
 #[derive(Clone, Copy)]
 pub struct List {
     pub unit: Width,
-    pub units: u8,
-    pub doubles: u8,
+    units: u8,
+    doubles: u8,
     // where its first device field stands
-    pub at: usize,
+    at: usize,
 }
 
 // A list in the frame that carries it.
 #[derive(Clone, Copy)]
 pub struct Listed<'a> {
-    pub code: Code,
-    pub frame: &'a [u8],
+    pub frame: Coded<'a>,
     pub list: List,
 }
 
@@ -46,8 +37,31 @@ struct Access {
 }
 
 impl List {
+    // The list of a random write in bits: a count, and then its accesses.
+    pub fn of_bits(frame: Coded<'_>, at: usize) -> Option<List> {
+        let (units, at) = frame.byte(at)?;
+        Some(List {
+            unit: Width::Bit,
+            units,
+            doubles: 0,
+            at,
+        })
+    }
+
+    // The list of any other request: the count of words, that of double words, and then its accesses.
+    pub fn of_words(frame: Coded<'_>, at: usize) -> Option<List> {
+        let (units, at) = frame.byte(at)?;
+        let (doubles, at) = frame.byte(at)?;
+        Some(List {
+            unit: Width::Word,
+            units,
+            doubles,
+            at,
+        })
+    }
+
     fn total(self) -> u32 {
-        self.units as u32 + self.doubles as u32
+        u32::from(self.units) + u32::from(self.doubles)
     }
 
     // How many of its accesses are told: the first 32 at most.
@@ -57,7 +71,7 @@ impl List {
 
     // What the access of an index reaches.
     fn width(self, index: u32) -> Width {
-        if index < self.units as u32 {
+        if index < u32::from(self.units) {
             self.unit
         } else {
             Width::Double
@@ -65,170 +79,118 @@ impl List {
     }
 }
 
-// The list of a random write in bits: a count, and then its accesses.
-pub fn read_bit_list(code: Code, frame: &[u8], at: usize) -> Option<List> {
-    let (units, at) = fields::byte(code, frame, at)?;
-    Some(List {
-        unit: Width::Bit,
-        units,
-        doubles: 0,
-        at,
-    })
-}
-
-// The list of any other request: the count of words, that of double words, and then its accesses.
-pub fn read_word_list(code: Code, frame: &[u8], at: usize) -> Option<List> {
-    let (units, at) = fields::byte(code, frame, at)?;
-    let (doubles, at) = fields::byte(code, frame, at)?;
-    Some(List {
-        unit: Width::Word,
-        units,
-        doubles,
-        at,
-    })
-}
-
-// The access whose device field stands at `at`.
-fn read_access(code: Code, frame: &[u8], at: usize, width: Width) -> Option<Access> {
-    let (device, number, next) = fields::device(code, frame, at)?;
-    Some(Access {
-        device,
-        number,
-        width,
-        next,
-    })
-}
-
-// The name of a width.
-pub fn width_name(width: Width) -> &'static str {
-    match width {
-        Width::Bit => "bit",
-        Width::Word => "word",
-        Width::Double => "double word",
-    }
-}
-
-// Tells how many accesses of each width there are.
-pub fn tell_counts(rt: &HostRuntime, list: List) -> io::Result<()> {
-    let units = list.units;
-    let unit = width_name(list.unit);
-    let s = plural(units as u16);
-    if list.doubles == 0 {
-        return print!(rt; "{units} {unit}{s}");
-    }
-    if units > 0 {
-        print!(rt; "{units} {unit}{s} and ")?;
-    }
-    let doubles = list.doubles;
-    let s = plural(doubles as u16);
-    print!(rt; "{doubles} double word{s}")
-}
-
-// Tells which points an access reaches.
-fn tell_access(rt: &HostRuntime, access: Access) -> io::Result<()> {
-    let device = access.device;
-    let number = access.number;
-    let point = Point { device, number };
-    let second = Point {
-        device,
-        number: number + 1,
-    };
-    match (device.kind(), access.width) {
-        (Kind::Bit, Width::Word) => print!(rt; "{point} (16 points as a word)"),
-        (Kind::Bit, Width::Double) => print!(rt; "{point} (32 points as a double word)"),
-        (Kind::Word, Width::Double) => print!(rt; "{point} and {second} as a double word"),
-        _ => print!(rt; "{point}"),
-    }
-}
-
-// Tells that a value is not there, and stays where it should have stood.
-fn tell_missing(rt: &HostRuntime, at: usize) -> io::Result<usize> {
-    print!(rt; "(no value)")?;
-    Ok(at)
-}
-
-// Tells the value of an access, which stands at `at`, and says where the next field does.
-fn tell_value(
-    rt: &HostRuntime,
-    code: Code,
-    data: &[u8],
-    at: usize,
-    access: Access,
-) -> io::Result<usize> {
-    let device = access.device;
-    let number = access.number;
-    match access.width {
-        Width::Bit => {
-            let Some((value, next)) = fields::byte(code, data, at) else {
-                return tell_missing(rt, at);
-            };
-            let point = Point { device, number };
-            print!(rt; "{point} = {value}")?;
-            Ok(next)
+// How many accesses of each width there are.
+impl fmt::Display for List {
+    fn fmt<W: fmt::Write>(&self, f: &mut fmt::Formatter<W>) -> fmt::Result {
+        let units = self.units;
+        let unit = self.unit;
+        let doubles = self.doubles;
+        if units > 0 || doubles == 0 {
+            let s = plural(u16::from(units));
+            write!(f, "{units} {unit}{s}")?;
         }
-        Width::Word => {
-            let Some((value, next)) = fields::word(code, data, at) else {
-                return tell_missing(rt, at);
-            };
-            tell_word(rt, device, number, value)?;
-            Ok(next)
+        if units > 0 && doubles > 0 {
+            f.write_str(" and ")?;
         }
-        Width::Double => {
-            let Some((value, next)) = fields::double(code, data, at) else {
-                return tell_missing(rt, at);
-            };
-            tell_double(rt, device, number, value)?;
-            Ok(next)
+        if doubles > 0 {
+            let s = plural(u16::from(doubles));
+            write!(f, "{doubles} double word{s}")?;
+        }
+        Ok(())
+    }
+}
+
+impl Access {
+    // The access whose device field stands at `at`.
+    fn read(frame: Coded<'_>, at: usize, width: Width) -> Option<Access> {
+        let (device, number, next) = frame.device(at)?;
+        Some(Access {
+            device,
+            number,
+            width,
+            next,
+        })
+    }
+
+    fn point(self) -> Point {
+        Point {
+            device: self.device,
+            number: self.number,
+        }
+    }
+
+    // Tells its value, which stands at `at`, and says where the next field does: there too, where the value is not there.
+    fn tell_value(self, rt: &HostRuntime, data: Coded<'_>, at: usize) -> io::Result<usize> {
+        let Some((value, next)) = data.number(at, self.width) else {
+            print!(rt; "(no value)")?;
+            return Ok(at);
+        };
+        let reading = Reading {
+            point: self.point(),
+            width: self.width,
+            value,
+        };
+        print!(rt; "{reading}")?;
+        Ok(next)
+    }
+}
+
+// Which points an access reaches.
+impl fmt::Display for Access {
+    fn fmt<W: fmt::Write>(&self, f: &mut fmt::Formatter<W>) -> fmt::Result {
+        let point = self.point();
+        match (self.device.kind(), self.width) {
+            (Kind::Bit, Width::Word) => write!(f, "{point} (16 points as a word)"),
+            (Kind::Bit, Width::Double) => write!(f, "{point} (32 points as a double word)"),
+            (Kind::Word, Width::Double) => {
+                let second = point.plus(1);
+                write!(f, "{point} and {second} as a double word")
+            }
+            _ => write!(f, "{point}"),
         }
     }
 }
 
-// Tells the accesses of a list.
-pub fn tell_list(rt: &HostRuntime, listed: Listed<'_>) -> io::Result<()> {
-    let list = listed.list;
-    let mut at = list.at;
-    for i in 0..list.told() {
-        let Some(access) = read_access(listed.code, listed.frame, at, list.width(i)) else {
-            return tell_unread(rt);
-        };
-        tell_comma(rt, i)?;
-        tell_access(rt, access)?;
-        at = access.next;
+impl Listed<'_> {
+    // Tells each access by `tell`, which says where the next device field stands.
+    fn tell_each<F: FnMut(Access) -> io::Result<usize>>(
+        self,
+        rt: &HostRuntime,
+        mut tell: F,
+    ) -> io::Result<()>
+        requires { F.IsAlwaysCallable tell }
+    {
+        let list = self.list;
+        let mut at = list.at;
+        for i in 0..list.told() {
+            let Some(access) = Access::read(self.frame, at, list.width(i)) else {
+                return tell_unread(rt);
+            };
+            tell_comma(rt, i)?;
+            at = tell(access)?;
+        }
+        tell_more(rt, list.total())
     }
-    tell_more(rt, list.total())
-}
 
-// Tells the accesses of a list with the values that stand behind each of them.
-pub fn tell_writes(rt: &HostRuntime, listed: Listed<'_>) -> io::Result<()> {
-    let list = listed.list;
-    let mut at = list.at;
-    for i in 0..list.told() {
-        let Some(access) = read_access(listed.code, listed.frame, at, list.width(i)) else {
-            return tell_unread(rt);
-        };
-        tell_comma(rt, i)?;
-        at = tell_value(rt, listed.code, listed.frame, access.next, access)?;
+    // Tells the accesses.
+    pub fn tell(self, rt: &HostRuntime) -> io::Result<()> {
+        self.tell_each(rt, |access| {
+            print!(rt; "{access}")?;
+            Ok(access.next)
+        })
     }
-    tell_more(rt, list.total())
-}
 
-// Tells the accesses of a list with the values that the data of a reply, in a code of its own, have for them.
-pub fn tell_values(
-    rt: &HostRuntime,
-    listed: Listed<'_>,
-    code: Code,
-    data: &[u8],
-) -> io::Result<()> {
-    let list = listed.list;
-    let mut at = list.at;
-    let mut from = 0;
-    for i in 0..list.told() {
-        let Some(access) = read_access(listed.code, listed.frame, at, list.width(i)) else {
-            return tell_unread(rt);
-        };
-        tell_comma(rt, i)?;
-        from = tell_value(rt, code, data, from, access)?;
-        at = access.next;
+    // Tells the accesses with the values that stand behind each of them.
+    pub fn tell_writes(self, rt: &HostRuntime) -> io::Result<()> {
+        self.tell_each(rt, |access| access.tell_value(rt, self.frame, access.next))
     }
-    tell_more(rt, list.total())
+
+    // Tells the accesses with the values that the data of a reply, in a code of its own, have for them.
+    pub fn tell_values(self, rt: &HostRuntime, data: Coded<'_>) -> io::Result<()> {
+        let mut from = 0;
+        self.tell_each(rt, |access| {
+            from = access.tell_value(rt, data, from)?;
+            Ok(access.next)
+        })
+    }
 }

@@ -4,11 +4,11 @@
 mod asking;
 mod batch;
 mod bench;
+mod coded;
 mod cutting;
 mod expected;
 mod extents;
 mod faults;
-mod fields;
 mod frames;
 mod hex;
 mod line;
@@ -17,6 +17,7 @@ mod making;
 mod numbers;
 mod outcome;
 mod parts;
+mod reading;
 mod records;
 mod registered;
 mod rows;
@@ -27,7 +28,7 @@ mod size;
 mod space;
 mod storage;
 mod telling;
-mod values;
+mod width;
 mod words;
 
 use run::run_lines;
@@ -44,8 +45,8 @@ fn main(rt: HostRuntime) -> io::Result<()> {
         None => Ok(()),
         Some(unread) => {
             let line = unread.line;
-            let words = unread.expected.words();
-            println!(rt; "line {line}: expected {words}")?;
+            let expected = unread.expected;
+            println!(rt; "line {line}: expected {expected}")?;
             Err(io::Error::from(ErrorKind::InvalidInput))
         }
     }

@@ -9,15 +9,11 @@ use crate::size::SpaceSize;
 fn with_digit(value: u32, character: u8) -> Option<u32>
     ensures { result ≡ with_digit value character }
 {
-    let digit = match character {
-        b'0'..=b'9' => character - b'0',
-        _ => return None,
-    };
-    let number = 10 * value as u64 + digit as u64;
-    if number <= 0xFFFF_FFFF {
-        Some(number as u32)
-    } else {
-        None
+    match character {
+        b'0'..=b'9' => value
+            .checked_mul(10)?
+            .checked_add(u32::from(character - b'0')),
+        _ => None,
     }
 }
 
@@ -36,26 +32,22 @@ fn with_digits(word: &[u8]) -> Option<u32>
 fn decimal(word: &[u8]) -> Option<u32>
     ensures { result ≡ decimal_in word.now }
 {
-    if word.is_empty() {
-        return None;
+    match word {
+        [] => None,
+        _ => with_digits(word),
     }
-    with_digits(word)
 }
 
 // A number below 2^32.
 pub fn read_number(word: &[u8]) -> Result<u32, Expected> {
-    match decimal(word) {
-        Some(number) => Ok(number),
-        None => Err(Expected::Number),
-    }
+    decimal(word).ok_or(Expected::Number)
 }
 
 // The value of a point.
 pub fn read_value(word: &[u8]) -> Result<u16, Expected> {
-    match decimal(word) {
-        Some(value) if value <= 65535 => Ok(value as u16),
-        _ => Err(Expected::Value),
-    }
+    decimal(word)
+        .and_then(|value| u16::try_from(value).ok())
+        .ok_or(Expected::Value)
 }
 
 // The size of a reply space.

@@ -1,17 +1,17 @@
 // What came of the calls of a history.
 use crate::asking::registers;
 use crate::bench::Bench;
+use crate::coded::Coded;
 use crate::line::Line;
+use crate::registered::Registered;
 use crate::space::{or_dash, space_text};
 use crate::storage::Storage;
 use crate::telling::{Exchange, tell};
-use crate::words::{FaultShown, Named, Point, Value, flag_name, refusal_words};
-use device::Device;
+use crate::words::{FaultShown, Named, Point, flag_name, refusal_words};
 use history::Outcome;
 use memory::{Refusal, WritableMemory};
 use server::Answer;
 use std::io;
-use wire::Code;
 
 // Prints the answer to a frame.
 fn show_answer(rt: &HostRuntime, answer: Answer, space: &[u8]) -> io::Result<()> {
@@ -33,16 +33,15 @@ impl<M: WritableMemory + Storage> Bench<M> {
     ) -> io::Result<()> {
         match (line, outcome) {
             (Line::Frame { code, bytes, .. }, Outcome::Taken { answer, space }) => {
-                self.tell_frame(rt, *code, bytes.as_slice(), *answer, space.as_slice())
+                let frame = Coded {
+                    code: *code,
+                    bytes: bytes.as_slice(),
+                };
+                self.tell_frame(rt, frame, *answer, space.as_slice())
             }
-            (
-                Line::Set {
-                    device,
-                    number,
-                    value,
-                },
-                Outcome::Written(written),
-            ) => self.tell_set(rt, *device, *number, *value, *written),
+            (Line::Set { point, value }, Outcome::Written(written)) => {
+                self.tell_set(rt, *point, *value, *written)
+            }
             (Line::Open, Outcome::Window(flag)) => self.tell_open(rt, *flag),
             (Line::End, Outcome::Window(flag)) => self.tell_end(rt, *flag),
             _ => Ok(()),
@@ -52,25 +51,23 @@ impl<M: WritableMemory + Storage> Bench<M> {
     fn tell_frame<'a>(
         &mut self,
         rt: &HostRuntime,
-        code: Code,
-        frame: &'a [u8],
+        frame: Coded<'a>,
         answer: Answer,
         space: &'a [u8],
     ) -> io::Result<()> {
         show_answer(rt, answer, space)?;
-        if answer.fault.is_none() && registers(code, frame, space.len()) {
-            self.registered.keep(code, frame)?;
+        if answer.fault.is_none() && registers(frame, space.len()) {
+            self.registered = Some(Registered::new(rt.alloc(), frame)?);
         }
         let size = answer.length.min(space.len());
         tell(
             rt,
             Exchange {
-                code,
                 frame,
                 space: space.len(),
-                reply: &space[0..size],
+                reply: &space[..size],
                 answer,
-                registered: &self.registered,
+                registered: self.registered.as_ref(),
             },
         )
     }
@@ -78,28 +75,24 @@ impl<M: WritableMemory + Storage> Bench<M> {
     fn tell_set(
         &self,
         rt: &HostRuntime,
-        device: Device,
-        number: u32,
+        point: Point,
         value: u16,
         written: Result<(), Refusal>,
     ) -> io::Result<()> {
-        let point = Named(Point { device, number });
+        let named = Named(point);
         match written {
             Ok(()) => {
-                let shown = Value {
-                    kind: device.kind(),
-                    value,
-                };
+                let shown = point.holding(value);
                 println!(rt; "set ok")?;
-                println!(rt; "  {point} is now {shown}")
+                println!(rt; "  {named} is now {shown}")
             }
             Err(refusal) => {
                 let cause = refusal.number();
                 let words = refusal_words(refusal);
                 println!(rt; "set refused {cause}")?;
-                print!(rt; "  {point} was not set to {value} ({cause}): {words}")?;
+                print!(rt; "  {named} was not set to {value} ({cause}): {words}")?;
                 if refusal == Refusal::Outside {
-                    let extent = self.extent_of(device);
+                    let extent = self.extent_of(point.device);
                     print!(rt; "; {extent}")?;
                 }
                 println!(rt; "")

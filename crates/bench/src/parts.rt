@@ -4,8 +4,11 @@ ghost use Rattle.std.specs.Option.{ok_or};
 ghost use Rattle.bench.specs.Symbols.{named_device};
 ghost use Rattle.bench.specs.declared.expected.Expected.TheVariants.{Symbol};
 
+use crate::cutting::Words;
 use crate::expected::Expected;
-use crate::hex::read_bytes;
+use crate::hex::{read_bytes, read_words};
+use crate::numbers::read_number;
+use crate::words::Point;
 use device::{Device, by_symbol};
 use std::alloc::Global;
 use wire::Code;
@@ -24,19 +27,15 @@ fn device_named(word: &[u8]) -> Option<Device>
 pub fn read_symbol(word: &[u8]) -> Result<Device, Expected>
     ensures { result ≡ ok_or (named_device word.now) Symbol }
 {
-    match device_named(word) {
-        Some(device) => Ok(device),
-        None => Err(Expected::Symbol),
-    }
+    device_named(word).ok_or(Expected::Symbol)
 }
 
-// The end of a line.
-pub fn ended(rest: &[u8]) -> Result<(), Expected> {
-    if rest.is_empty() {
-        Ok(())
-    } else {
-        Err(Expected::End)
-    }
+// D 3
+pub fn read_point(words: &mut Words<'_>) -> Result<Point, Expected> {
+    Ok(Point {
+        device: read_symbol(words.next())?,
+        number: read_number(words.next())?,
+    })
 }
 
 // ascii, or binary
@@ -48,11 +47,28 @@ pub fn read_code(word: &[u8]) -> Result<Code, Expected> {
     }
 }
 
+// What a word of digits says, with - for nothing; an empty word says nothing that was expected.
+fn read_digits<T: Drop, F: FnOnce(Global, &[u8]) -> Result<Vec<T>, Expected>>(
+    heap: Global,
+    word: &[u8],
+    expected: Expected,
+    read: F,
+) -> Result<Vec<T>, Expected>
+    requires { F.IsAlwaysCallable read }
+{
+    match word {
+        [] => Err(expected),
+        b"-" => Ok(Vec::new(heap)),
+        _ => read(heap, word),
+    }
+}
+
 // Bytes in hexadecimal digits, with - for none.
 pub fn read_hex(heap: Global, word: &[u8]) -> Result<Vec<u8>, Expected> {
-    match word {
-        [] => Err(Expected::Hex),
-        b"-" => Ok(Vec::new(heap)),
-        _ => read_bytes(heap, word),
-    }
+    read_digits(heap, word, Expected::Hex, read_bytes)
+}
+
+// Words in hexadecimal digits, with - for none.
+pub fn read_hex_words(heap: Global, word: &[u8]) -> Result<Vec<u16>, Expected> {
+    read_digits(heap, word, Expected::Words, read_words)
 }

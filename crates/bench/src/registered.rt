@@ -1,30 +1,26 @@
 // The frame of the last registration that was accepted: by it the values of a monitor are named.
+use crate::coded::Coded;
 use std::alloc::{AllocError, Global};
 use wire::Code;
 
 #[derive(Drop)]
 pub struct Registered {
-    pub code: Code,
-    // empty where nothing is registered
-    pub frame: Vec<u8>,
+    code: Code,
+    frame: Vec<u8>,
 }
 
 impl Registered {
-    pub fn new(heap: Global) -> Registered {
-        Registered {
-            code: Code::Binary,
-            frame: Vec::new(heap),
+    pub fn new(heap: Global, frame: Coded<'_>) -> Result<Registered, AllocError> {
+        Ok(Registered {
+            code: frame.code,
+            frame: Vec::from_slice(heap, frame.bytes)?,
+        })
+    }
+
+    pub fn coded(&self) -> Coded<'_> {
+        Coded {
+            code: self.code,
+            bytes: self.frame.as_slice(),
         }
-    }
-
-    pub fn forget(&mut self) {
-        self.frame.clear();
-    }
-
-    pub fn keep(&mut self, code: Code, frame: &[u8]) -> Result<(), AllocError> {
-        self.frame.clear();
-        self.frame.extend_from_slice(frame)?;
-        self.code = code;
-        Ok(())
     }
 }

@@ -1,12 +1,12 @@
 // Carries out the lines of a script, one memory after the other.
-ghost use Rattle.std.specs.Prelude.{◌≤◌, length, IfOk};
+ghost use Rattle.std.specs.Prelude.{◌≤◌, length};
 
 use crate::batch::is_call;
 use crate::bench::Bench;
 use crate::line::Line;
-use crate::making::{image_bytes, packed_words, tell_image, tell_packed};
-use crate::storage::Storage;
-use memory::{ByteImage, PackedTables, WritableMemory};
+use crate::making::{tell_making, units_of};
+use crate::storage::{Storage, Unit};
+use memory::WritableMemory;
 use std::io;
 
 // Whether a line makes a memory.
@@ -14,88 +14,63 @@ fn makes_memory(line: &Line) -> bool {
     matches!(line, Line::Packed { .. } | Line::Image { .. })
 }
 
-// Carries out the lines up to the next memory, and says how many they were. Lines that make calls wait until another kind of line comes.
-fn run_section<M: WritableMemory + Storage>(
+// How many lines stand before the first one that a test takes: all of them, where it takes none.
+fn count_until<F: Fn(&Line) -> bool>(lines: &[Line], test: F) -> usize
+    requires { F.IsAlwaysCallable test }
+    ensures { result ≤ length lines.now }
+{
+    lines.iter().position(test).unwrap_or(lines.len())
+}
+
+// Carries out lines of which none makes a memory. Those that make calls wait until another kind of line comes.
+pub fn run_section<M: WritableMemory + Storage>(
     rt: &HostRuntime,
     memory: &mut M,
     lines: &[Line],
-) -> io::Result<usize>
-    ensures { IfOk result (λ n. n ≤ length lines.now) }
-{
-    let mut bench = Bench::new(rt.alloc(), memory);
-    let mut first = 0;
-    for i in 0..lines.len() {
-        if is_call(&lines[i]) {
-            continue;
-        }
-        bench.replay(rt, &lines[first..i])?;
-        if makes_memory(&lines[i]) {
-            return Ok(i);
-        }
-        bench.carry_out(rt, &lines[i])?;
-        first = i + 1;
+) -> io::Result<()> {
+    let mut bench = Bench::new(memory);
+    let mut rest = lines;
+    loop {
+        let (calls, others) = rest.split_at(count_until(rest, |line| !is_call(line)));
+        bench.replay(rt, calls)?;
+        let Some((line, behind)) = others.split_first() else {
+            return Ok(());
+        };
+        bench.carry_out(rt, line)?;
+        rest = behind;
     }
-    bench.replay(rt, &lines[first..])?;
-    Ok(lines.len())
 }
 
-// Makes packed tables over the words and carries out the lines up to the next memory.
-fn run_packed(
+// Makes a memory over the units given or over zeros, tells so, and carries the lines out on it.
+fn run_over<U: Unit + Drop>(
     rt: &HostRuntime,
-    words: &mut [u16],
-    extents: [u32; 12],
+    extents: &[u32; 12],
+    given: &Option<Vec<U>>,
     lines: &[Line],
-) -> io::Result<usize>
-    ensures { IfOk result (λ n. n ≤ length lines.now) }
-{
-    let mut tables = PackedTables::new(words, extents);
-    run_section(rt, &mut tables, lines)
+) -> io::Result<()> {
+    let mut units = units_of(rt.alloc(), given, extents)?;
+    tell_making::<U>(rt, units.len(), extents)?;
+    U::run(rt, units.as_mut_slice(), *extents, lines)
 }
 
-// Makes a byte image over the bytes and carries out the lines up to the next memory.
-fn run_image(
-    rt: &HostRuntime,
-    bytes: &mut [u8],
-    extents: [u32; 12],
-    lines: &[Line],
-) -> io::Result<usize>
-    ensures { IfOk result (λ n. n ≤ length lines.now) }
-{
-    let mut image = ByteImage::new(bytes, extents);
-    run_section(rt, &mut image, lines)
-}
-
-// Carries out a line that makes a memory, and the lines behind it up to the next such one; says how many these were.
-fn run_memory(rt: &HostRuntime, making: &Line, lines: &[Line]) -> io::Result<usize>
-    ensures { IfOk result (λ n. n ≤ length lines.now) }
-{
+// Carries out a line that makes a memory, and the lines behind it.
+fn run_memory(rt: &HostRuntime, making: &Line, lines: &[Line]) -> io::Result<()> {
     match making {
-        Line::Packed { extents, words } => {
-            let mut words = packed_words(rt.alloc(), words, extents)?;
-            let size = words.len();
-            tell_packed(rt, size, extents)?;
-            run_packed(rt, words.as_mut_slice(), *extents, lines)
-        }
-        Line::Image { extents, bytes } => {
-            let mut bytes = image_bytes(rt.alloc(), bytes, extents)?;
-            let size = bytes.len();
-            tell_image(rt, size, extents)?;
-            run_image(rt, bytes.as_mut_slice(), *extents, lines)
-        }
-        _ => Ok(0),
+        Line::Packed { extents, words } => run_over(rt, extents, words, lines),
+        Line::Image { extents, bytes } => run_over(rt, extents, bytes, lines),
+        _ => Ok(()),
     }
 }
 
 // Carries out all lines. Those before the first memory find one that has no points.
 pub fn run_lines(rt: &HostRuntime, lines: &[Line]) -> io::Result<()> {
+    let (section, mut rest) = lines.split_at(count_until(lines, makes_memory));
     let mut none = [0u16; 0];
-    let mut at = run_packed(rt, &mut none, [0; 12], lines)?;
-    for _ in 0..lines.len() {
-        if at >= lines.len() {
-            break;
-        }
-        let done = run_memory(rt, &lines[at], &lines[at + 1..])?;
-        at += 1 + done;
+    u16::run(rt, &mut none, [0; 12], section)?;
+    while let Some((making, behind)) = rest.split_first() {
+        let (section, next) = behind.split_at(count_until(behind, makes_memory));
+        run_memory(rt, making, section)?;
+        rest = next;
     }
     Ok(())
 }

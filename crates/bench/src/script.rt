@@ -1,11 +1,11 @@
 // The lines of a script.
-use crate::cutting::{behind, find, trimmed};
+use crate::cutting::trimmed;
 use crate::expected::Expected;
 use crate::line::{Line, read_line};
 use std::alloc::{AllocError, Global};
 
 // A line that cannot be read, by its number from 1 on.
-#[derive(Clone, Copy)]
+#[derive(Clone, Copy, PartialEq, Eq, Debug)]
 pub struct Unread {
     pub line: usize,
     pub expected: Expected,
@@ -18,17 +18,9 @@ pub struct Script {
     pub unread: Option<Unread>,
 }
 
-// Whether a line says nothing: it is blank or a comment.
-fn is_skipped(line: &[u8]) -> bool {
-    match line {
-        [] => true,
-        [first, ..] => *first == b'#',
-    }
-}
-
-// Reads a line, if it says something, and adds it to the lines.
+// Reads a line, if it says something, and adds it to the lines: a blank line and a comment say nothing.
 fn add_line(heap: Global, lines: &mut Vec<Line>, text: &[u8]) -> Result<(), Expected> {
-    if is_skipped(text) {
+    if matches!(text, [] | [b'#', ..]) {
         return Ok(());
     }
     let line = read_line(heap, text)?;
@@ -39,23 +31,13 @@ fn add_line(heap: Global, lines: &mut Vec<Line>, text: &[u8]) -> Result<(), Expe
 // Reads a script, and stops at the first line that cannot be read.
 pub fn read_script(heap: Global, text: &[u8]) -> Result<Script, AllocError> {
     let mut lines = Vec::new(heap);
-    let mut rest = text;
-    for number in 0..text.len() {
-        if rest.is_empty() {
-            break;
-        }
-        let end = find(rest, b'\n');
-        if let Err(expected) = add_line(heap, &mut lines, trimmed(&rest[0..end])) {
-            let unread = Unread {
-                line: number + 1,
-                expected,
-            };
+    for (line, words) in (1usize..).zip(text.split(|byte| *byte == b'\n')) {
+        if let Err(expected) = add_line(heap, &mut lines, trimmed(words)) {
             return Ok(Script {
                 lines,
-                unread: Some(unread),
+                unread: Some(Unread { line, expected }),
             });
         }
-        rest = behind(rest, end);
     }
     Ok(Script {
         lines,

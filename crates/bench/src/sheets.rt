@@ -1,7 +1,9 @@
 // Sheets: run on the bench, and told.
 use crate::bench::Bench;
+use crate::coded::Coded;
 use crate::faults::tell_stopped;
 use crate::records::{first_frames, last_registration};
+use crate::registered::Registered;
 use crate::space::{kept, or_dash, space_text};
 use crate::storage::Storage;
 use crate::telling::{tell_recorded, tell_text};
@@ -30,12 +32,9 @@ fn reason_name(reason: Reason) -> &'static str {
 
 // How many frames of the sheet were answered: those without an error, and one that an error reply stopped the run at.
 fn answered(end: RunEnd) -> usize {
-    match fault_of(end.reason) {
-        Some(fault) => match fault.layer() {
-            Layer::Frame | Layer::Sheet => end.count,
-            Layer::Device | Layer::Request => end.count.saturating_add(1),
-        },
-        None => end.count,
+    match fault_of(end.reason).map(|fault| fault.layer()) {
+        Some(Layer::Device | Layer::Request) => end.count.saturating_add(1),
+        _ => end.count,
     }
 }
 
@@ -52,11 +51,16 @@ fn show_end(rt: &HostRuntime, end: RunEnd, space: &[u8]) -> io::Result<()> {
 
 // Tells what the frames that were answered asked for.
 fn tell_frames(rt: &HostRuntime, code: Code, space: usize, frames: &[&[u8]]) -> io::Result<()> {
-    let mut number = 1usize;
-    for frame in frames {
+    for (number, bytes) in (1usize..).zip(frames) {
         print!(rt; "  frame {number}: ")?;
-        tell_recorded(rt, code, frame, space)?;
-        number = number.saturating_add(1);
+        tell_recorded(
+            rt,
+            Coded {
+                code,
+                bytes: *bytes,
+            },
+            space,
+        )?;
     }
     Ok(())
 }
@@ -123,8 +127,8 @@ impl<M: WritableMemory + Storage> Bench<M> {
         tell_next(rt, end)?;
         tell_reply(rt, code, reply.as_slice())?;
         let accepted = end.count.min(frames.len());
-        if let Some(frame) = last_registration(code, space, &frames.as_slice()[0..accepted]) {
-            self.registered.keep(code, frame)?;
+        if let Some(frame) = last_registration(code, space, &frames.as_slice()[..accepted]) {
+            self.registered = Some(Registered::new(rt.alloc(), frame)?);
         }
         Ok(())
     }

@@ -15,16 +15,13 @@ pub fn kept(space: &[u8]) -> usize
     ensures behind { (k : ℕ) → result ≤ k → k < length space.now → slice_index space.now k ≡ 0xEE }
     ensures last { 0 < result → slice_index space.now (result - 1) ≢ 0xEE }
 {
-    for i in (0..space.len()).rev() {
-        if space[i] != 0xEE {
-            return i + 1;
-        }
-    }
-    0
+    space
+        .iter()
+        .rposition(|byte| *byte != 0xEE)
+        .map_or(0, |last| last + 1)
 }
 
 // The reply space in digits, without the bytes at its end that still hold EE.
 pub fn space_text(heap: Global, space: &[u8]) -> Result<String, AllocError> {
-    let size = kept(space);
-    bytes_text(heap, &space[0..size])
+    bytes_text(heap, &space[..kept(space)])
 }

@@ -23,10 +23,28 @@ impl fmt::Display for Symbol {
 }
 
 // A point by its device's symbol and its number, in the device's notation.
-#[derive(Clone, Copy)]
+#[derive(Clone, Copy, PartialEq, Eq, Debug)]
 pub struct Point {
     pub device: Device,
     pub number: u32,
+}
+
+impl Point {
+    // The point so many numbers behind.
+    pub fn plus(self, points: u32) -> Point {
+        Point {
+            device: self.device,
+            number: self.number.saturating_add(points),
+        }
+    }
+
+    // A value that it holds, as it is told.
+    pub fn holding(self, value: u16) -> Value {
+        Value {
+            kind: self.device.kind(),
+            value,
+        }
+    }
 }
 
 impl fmt::Display for Point {
