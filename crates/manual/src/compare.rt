@@ -14,15 +14,11 @@ const EXTENT: u32 = 2048;
 
 // Whether a text is that of a pattern, in which a question mark stands for any character.
 fn is_like(pattern: &str, text: &str) -> bool {
-    if pattern.len() != text.len() {
-        return false;
-    }
-    for (wanted, found) in pattern.bytes().zip(text.bytes()) {
-        if wanted != b'?' && wanted != found {
-            return false;
-        }
-    }
-    true
+    pattern.len() == text.len()
+        && pattern
+            .bytes()
+            .zip(text.bytes())
+            .all(|(wanted, found)| wanted == b'?' || wanted == found)
 }
 
 // The verdict on the points that a served row leaves.
@@ -42,10 +38,7 @@ fn judge_points<M: ReadableMemory>(
 
 // The end code of an answer: 0 if the request was accepted.
 fn end_of(answer: Answer) -> u16 {
-    match answer.fault {
-        Some(fault) => fault.cause.number(),
-        None => 0,
-    }
+    answer.fault.map_or(0, |fault| fault.cause.number())
 }
 
 // Sends the request of a row; the end code, and the reply as text.
@@ -67,10 +60,10 @@ fn answer_to<M: WritableMemory>(
         &settings,
         registration,
     );
-    match space.get(0..answer.length) {
-        Some(bytes) => Ok((end_of(answer), text_of(heap, row.code, bytes)?)),
-        None => Err(anyhow!("a reply is longer than its space")),
-    }
+    let bytes = space
+        .get(0..answer.length)
+        .ok_or_else(|| anyhow!("a reply is longer than its space"))?;
+    Ok((end_of(answer), text_of(heap, row.code, bytes)?))
 }
 
 // The reply that a row calls for: its own, or a refusal with the end code that came.
@@ -111,9 +104,7 @@ fn judge_filled(
     registration: &mut Registration,
 ) -> anyhow::Result<Verdict> {
     let extents = [EXTENT; 12];
-    let Ok(needed) = words_needed(&extents) else {
-        return Err(anyhow!("the extents are too large"));
-    };
+    let needed = words_needed(&extents).map_err(|_| anyhow!("the extents are too large"))?;
     let mut words = vec![in heap; fill; needed]?;
     let mut tables = PackedTables::new(words.as_mut_slice(), extents);
     judge_over(heap, row, &mut tables, registration)

@@ -1,7 +1,7 @@
 // Frames as text: the characters of an ASCII frame, or two hexadecimal digits for each byte of a binary one.
 use anyhow::anyhow;
 use std::alloc::{AllocError, Global};
-use wire::{Code, hex_char, read_digit};
+use wire::{Code, read_digit};
 
 // A number of two bytes, in the order of the code.
 fn number(heap: Global, code: Code, value: u16) -> Result<String, AllocError> {
@@ -27,10 +27,7 @@ fn size(code: Code, text: &str) -> anyhow::Result<u16> {
         Code::Ascii => text.len(),
         Code::Binary => text.len() / 2,
     };
-    match u16::try_from(bytes) {
-        Ok(size) => Ok(size),
-        Err(_) => Err(anyhow!("a frame is too long")),
-    }
+    u16::try_from(bytes).map_err(|_| anyhow!("a frame is too long"))
 }
 
 // A 3E frame of this subheader, with all that stands behind the length.
@@ -46,25 +43,15 @@ fn data_in(heap: Global, code: Code, cell: &str) -> Result<String, AllocError> {
     if cell == "-" {
         return Ok(text);
     }
-    for c in cell.chars() {
-        if code == Code::Ascii || c != ' ' {
-            text.push(c)?;
-        }
+    for c in cell.chars().filter(|c| code == Code::Ascii || *c != ' ') {
+        text.push(c)?;
     }
     Ok(text)
 }
 
 // The data with 0 in the place of each lost digit.
 fn filled(heap: Global, data: &str) -> Result<String, AllocError> {
-    let mut text = String::new(heap);
-    for c in data.chars() {
-        if c == '?' {
-            text.push('0')?;
-        } else {
-            text.push(c)?;
-        }
-    }
-    Ok(text)
+    data.replace(heap, '?', "0")
 }
 
 // The request frame over the data of a cell; its timer is 0010.
@@ -101,20 +88,17 @@ pub fn refusal(
 
 // The byte of two digits.
 fn byte_of(pair: &[u8]) -> Option<u8> {
-    match pair {
-        [high, low] => Some(read_digit(*high)? * 16 + read_digit(*low)?),
-        _ => None,
-    }
+    let [high, low] = pair else {
+        return None;
+    };
+    Some(read_digit(*high)? * 16 + read_digit(*low)?)
 }
 
 // The bytes of a text of pairs of digits.
 fn paired(heap: Global, text: &str) -> anyhow::Result<Vec<u8>> {
     let mut bytes = Vec::new(heap);
     for pair in text.as_bytes().chunks(2) {
-        match byte_of(pair) {
-            Some(byte) => bytes.push(byte)?,
-            None => return Err(anyhow!("a byte cannot be read")),
-        }
+        bytes.push(byte_of(pair).ok_or_else(|| anyhow!("a byte cannot be read"))?)?;
     }
     Ok(bytes)
 }
@@ -132,11 +116,8 @@ pub fn text_of(heap: Global, code: Code, bytes: &[u8]) -> Result<String, AllocEr
     let mut text = String::new(heap);
     for byte in bytes {
         match code {
-            Code::Ascii => text.push(*byte as char)?,
-            Code::Binary => {
-                text.push(hex_char(*byte / 16) as char)?;
-                text.push(hex_char(*byte % 16) as char)?;
-            }
+            Code::Ascii => text.push(char::from(*byte))?,
+            Code::Binary => write!(text, "{byte:02X}")?,
         }
     }
     Ok(text)

@@ -19,7 +19,7 @@ fn run(rt: &(impl Files + AllocGlobal + Print)) -> anyhow::Result<()> {
     let heap = rt.alloc();
     let text = fs::read_to_string(rt, "manual-examples.tsv")?;
     let mut servers = Servers::new();
-    let mut counts = Counts::new();
+    let mut counts = Counts::default();
     for line in text.as_str().lines().skip(1) {
         let row = read_row(line)?;
         let verdict = servers.judge(heap, &row)?;

@@ -5,19 +5,11 @@ use memory::{ReadableMemory, WritableMemory};
 use std::fmt;
 
 // A point and what it holds.
-#[derive(Clone, Copy)]
+#[derive(Clone, Copy, PartialEq, Eq)]
 pub struct Point {
     device: Device,
     number: u32,
     value: u16,
-}
-
-// What a word of a list says.
-#[derive(Clone, Copy)]
-enum Entry {
-    Known(Point),
-    // any value, or one that is lost
-    Open,
 }
 
 // The device that a point's name begins with, and the digits behind it.
@@ -33,10 +25,11 @@ fn device_of(name: &str) -> Option<(Device, &str)> {
 
 // The number behind a device, in its notation.
 fn number_of(device: Device, digits: &str) -> Option<u32> {
-    match device.notation() {
-        Notation::Decimal => u32::from_str_radix(digits, 10).ok(),
-        Notation::Hexadecimal => u32::from_str_radix(digits, 16).ok(),
-    }
+    let radix = match device.notation() {
+        Notation::Decimal => 10,
+        Notation::Hexadecimal => 16,
+    };
+    u32::from_str_radix(digits, radix).ok()
 }
 
 // A value: hexadecimal digits and H, or a decimal number.
@@ -47,18 +40,26 @@ fn value_of(text: &str) -> Option<u16> {
     }
 }
 
-// A word of a list, as `M100=1`, `TN100=1234H`, `M100..M131=any` or `D0=?`.
-fn read_entry(word: &str) -> Option<Entry> {
-    let (name, value) = word.split_once('=')?;
-    if value == "?" || value == "any" {
-        return Some(Entry::Open);
-    }
+// The point of a name, as `M100` or `TN100`, and its value.
+fn point_of(name: &str, value: &str) -> Option<Point> {
     let (device, digits) = device_of(name)?;
-    Some(Entry::Known(Point {
+    Some(Point {
         device,
         number: number_of(device, digits)?,
         value: value_of(value)?,
-    }))
+    })
+}
+
+// The point of a word of a list, as `M100=1` or `TN100=1234H`; none of `M100..M131=any` or `D0=?`, where the value is open or lost.
+fn read_entry(word: &str) -> anyhow::Result<Option<Point>> {
+    let point = match word.split_once('=') {
+        Some((_, "?" | "any")) => return Ok(None),
+        Some((name, value)) => point_of(name, value),
+        None => None,
+    };
+    point
+        .map(Some)
+        .ok_or_else(|| anyhow!("a list of points cannot be read"))
 }
 
 // The list of a cell, which may name the row that registers before it.
@@ -66,30 +67,23 @@ fn list_in(cell: &str) -> &str {
     if cell == "-" || cell == "all named points=any" {
         return "";
     }
-    match cell.strip_prefix("registered: ") {
-        Some(rest) => match rest.split_once("; ") {
-            Some((_, list)) => list,
-            None => rest,
-        },
-        None => cell,
-    }
+    cell.strip_prefix("registered: ").map_or(cell, |rest| {
+        rest.split_once("; ").map_or(rest, |(_, list)| list)
+    })
 }
 
 // Gives a point its value.
 fn set_point<M: WritableMemory>(memory: &mut M, point: Point) -> anyhow::Result<()> {
-    match memory.write(point.device, point.number, point.value) {
-        Ok(()) => Ok(()),
-        Err(_) => Err(anyhow!("a point of a list cannot be set")),
-    }
+    memory
+        .write(point.device, point.number, point.value)
+        .map_err(|_| anyhow!("a point of a list cannot be set"))
 }
 
 // Gives the points of a list their values.
 pub fn set_points<M: WritableMemory>(memory: &mut M, cell: &str) -> anyhow::Result<()> {
     for word in list_in(cell).split_whitespace() {
-        match read_entry(word) {
-            Some(Entry::Known(point)) => set_point(memory, point)?,
-            Some(Entry::Open) => {}
-            None => return Err(anyhow!("a list of points cannot be read")),
+        if let Some(point) = read_entry(word)? {
+            set_point(memory, point)?;
         }
     }
     Ok(())
@@ -97,10 +91,10 @@ pub fn set_points<M: WritableMemory>(memory: &mut M, cell: &str) -> anyhow::Resu
 
 // What a point holds in the memory.
 fn found_at<M: ReadableMemory>(memory: &M, point: Point) -> anyhow::Result<Point> {
-    match memory.read(point.device, point.number) {
-        Some(value) => Ok(Point { value, ..point }),
-        None => Err(anyhow!("a point of a list lies outside")),
-    }
+    memory
+        .read(point.device, point.number)
+        .map(|value| Point { value, ..point })
+        .ok_or_else(|| anyhow!("a point of a list lies outside"))
 }
 
 // The first point of a list that holds another value, as listed and as found.
@@ -109,15 +103,11 @@ pub fn first_unlike<M: ReadableMemory>(
     cell: &str,
 ) -> anyhow::Result<Option<(Point, Point)>> {
     for word in list_in(cell).split_whitespace() {
-        match read_entry(word) {
-            Some(Entry::Known(point)) => {
-                let found = found_at(memory, point)?;
-                if found.value != point.value {
-                    return Ok(Some((point, found)));
-                }
+        if let Some(point) = read_entry(word)? {
+            let found = found_at(memory, point)?;
+            if found != point {
+                return Ok(Some((point, found)));
             }
-            Some(Entry::Open) => {}
-            None => return Err(anyhow!("a list of points cannot be read")),
         }
     }
     Ok(None)

@@ -9,17 +9,9 @@ pub struct Remarks<'a> {
 
 // How many digits of a reply are known, and how many there are.
 fn known_digits(cell: &str) -> (usize, usize) {
-    let mut known = 0usize;
-    let mut all = 0usize;
-    for byte in cell.bytes() {
-        if byte != b' ' {
-            all = all.saturating_add(1);
-        }
-        if byte != b' ' && byte != b'?' {
-            known = known.saturating_add(1);
-        }
-    }
-    (known, all)
+    let all = cell.bytes().filter(|byte| *byte != b' ').count();
+    let lost = cell.bytes().filter(|byte| *byte == b'?').count();
+    (all.saturating_sub(lost), all)
 }
 
 impl Remarks<'_> {

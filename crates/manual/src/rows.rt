@@ -42,33 +42,23 @@ fn hexadecimal(digits: &str) -> Option<u16> {
 
 // The row of a line whose cells are divided by tabs.
 fn cells(line: &str) -> Option<Row<'_>> {
-    let (id, rest) = line.split_once('\t')?;
-    let (command, rest) = rest.split_once('\t')?;
-    let (subcommand, rest) = rest.split_once('\t')?;
-    let (code, rest) = rest.split_once('\t')?;
-    let (initial, rest) = rest.split_once('\t')?;
-    let (request, rest) = rest.split_once('\t')?;
-    let (response, rest) = rest.split_once('\t')?;
-    let (after, rest) = rest.split_once('\t')?;
-    let (_, status) = rest.split_once('\t')?;
+    let mut cells = line.splitn(10, '\t');
     Some(Row {
-        id,
-        command: hexadecimal(command)?,
-        subcommand: hexadecimal(subcommand)?,
-        code: code_of(code)?,
-        initial,
-        request,
-        response,
-        after,
-        status,
+        id: cells.next()?,
+        command: hexadecimal(cells.next()?)?,
+        subcommand: hexadecimal(cells.next()?)?,
+        code: code_of(cells.next()?)?,
+        initial: cells.next()?,
+        request: cells.next()?,
+        response: cells.next()?,
+        after: cells.next()?,
+        // a cell that is not read stands between
+        status: cells.nth(1)?,
     })
 }
 
 pub fn read_row(line: &str) -> anyhow::Result<Row<'_>> {
-    match cells(line) {
-        Some(row) => Ok(row),
-        None => Err(anyhow!("a line is no row of the table")),
-    }
+    cells(line).ok_or_else(|| anyhow!("a line is no row of the table"))
 }
 
 impl Row<'_> {

@@ -24,7 +24,7 @@ impl fmt::Display for Verdict {
 }
 
 // How many rows came out how.
-#[derive(Clone, Copy)]
+#[derive(Clone, Copy, Default)]
 pub struct Counts {
     same: u32,
     // of those, the ones with nothing to remark
@@ -34,20 +34,11 @@ pub struct Counts {
 }
 
 impl Counts {
-    pub fn new() -> Counts {
-        Counts {
-            same: 0,
-            plain: 0,
-            refused: 0,
-            differ: 0,
-        }
-    }
-
     pub fn add(&mut self, verdict: &Verdict, is_plain: bool) {
         match verdict {
             Verdict::Same => {
                 self.same = self.same.saturating_add(1);
-                self.plain = self.plain.saturating_add(is_plain as u32);
+                self.plain = self.plain.saturating_add(u32::from(is_plain));
             }
             Verdict::Refused(_) => self.refused = self.refused.saturating_add(1),
             Verdict::Differs { .. } => self.differ = self.differ.saturating_add(1),
