@@ -1,6 +1,4 @@
 // Lines of a script that follow one another as calls of a history: carried out by one replay, and then told one by one.
-ghost use Rattle.std.specs.Prelude.{◌≤◌, length};
-
 use crate::bench::Bench;
 use crate::line::Line;
 use crate::storage::Storage;
@@ -10,15 +8,16 @@ use server::Server;
 use std::alloc::{AllocError, Global};
 use std::io;
 
-// The call that a line makes, if it makes one; the reply space of a frame is the front of `fill`.
-fn call_of<'a>(line: &'a Line, fill: &'a [u8]) -> Option<Call<'a>>
-    requires { 65536 ≤ length fill.now }
-{
+// A reply space before the call: so that what a reply leaves untouched shows, each byte is EE.
+static UNTOUCHED: [u8; 65536] = [0xEE; 65536];
+
+// The call that a line makes, if it makes one.
+fn call_of(line: &Line) -> Option<Call<'_>> {
     match line {
         Line::Frame { code, space, bytes } => Some(Call::Frame {
             code: *code,
             bytes: bytes.as_slice(),
-            space: &fill[0..space.bytes],
+            space: &UNTOUCHED[..space.bytes],
         }),
         Line::Set { point, value } => Some(Call::Set {
             device: point.device,
@@ -33,10 +32,7 @@ fn call_of<'a>(line: &'a Line, fill: &'a [u8]) -> Option<Call<'a>>
 
 // Whether a line makes a call of a history.
 pub fn is_call(line: &Line) -> bool {
-    matches!(
-        line,
-        Line::Frame { .. } | Line::Set { .. } | Line::Open | Line::End
-    )
+    call_of(line).is_some()
 }
 
 // The calls of the lines, with an opening before them where a window is to stand from the start.
@@ -44,33 +40,25 @@ fn calls_of<'a>(
     heap: Global,
     window: bool,
     lines: &'a [Line],
-    fill: &'a [u8],
-) -> Result<Vec<Call<'a>>, AllocError>
-    requires { 65536 ≤ length fill.now }
-{
+) -> Result<Vec<Call<'a>>, AllocError> {
     let mut calls = Vec::new(heap);
     if window {
         calls.push(Call::Open)?;
     }
-    for line in lines {
-        if let Some(call) = call_of(line, fill) {
-            calls.push(call)?;
-        }
+    for call in lines.iter().filter_map(call_of) {
+        calls.push(call)?;
     }
     Ok(calls)
 }
 
 // Carries out the calls of the lines.
-fn replay_lines<'a, M: WritableMemory>(
+fn replay_lines<M: WritableMemory>(
     heap: Global,
     server: &mut Server<M>,
     window: bool,
-    lines: &'a [Line],
-    fill: &'a [u8],
-) -> Result<Replayed, AllocError>
-    requires { 65536 ≤ length fill.now }
-{
-    let calls = calls_of(heap, window, lines, fill)?;
+    lines: &[Line],
+) -> Result<Replayed, AllocError> {
+    let calls = calls_of(heap, window, lines)?;
     Ok(replay(heap, server, calls.as_slice()))
 }
 
@@ -81,16 +69,8 @@ impl<M: WritableMemory + Storage> Bench<M> {
         if lines.is_empty() {
             return Ok(());
         }
-        let heap = rt.alloc();
-        let fill = vec![in heap; 0xEEu8; 65536]?;
         let window = self.window;
-        let Replayed { outcomes, end } = replay_lines(
-            heap,
-            &mut self.server,
-            window,
-            lines,
-            fill.as_slice(),
-        )?;
+        let Replayed { outcomes, end } = replay_lines(rt.alloc(), &mut self.server, window, lines)?;
         let untold = usize::from(window);
         for (line, outcome) in lines.iter().zip(outcomes.iter().skip(untold)) {
             self.tell_outcome(rt, line, outcome)?;

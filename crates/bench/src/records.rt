@@ -2,6 +2,7 @@
 use crate::asking::registers;
 use crate::coded::{Coded, rest};
 use std::alloc::{AllocError, Global};
+use std::iter;
 use wire::Code;
 
 // The frame of the record that `rest` begins with, and what stands behind it.
@@ -14,16 +15,11 @@ fn cut_record(rest: &[u8]) -> Option<(&[u8], &[u8])> {
 
 // The frames of the first records of a sheet, so many as there are up to `count`.
 pub fn first_frames(heap: Global, sheet: &[u8], count: usize) -> Result<Vec<&[u8]>, AllocError> {
-    let mut frames = Vec::new(heap);
-    let mut rest = rest(sheet, 1);
-    for _ in 0..count {
-        let Some((frame, behind)) = cut_record(rest) else {
-            break;
-        };
-        frames.push(frame)?;
-        rest = behind;
-    }
-    Ok(frames)
+    let records = iter::successors(cut_record(rest(sheet, 1)), |(_, behind)| cut_record(*behind));
+    records
+        .take(count)
+        .map(|(frame, _)| frame)
+        .collect(heap)
 }
 
 // The last of the frames that registers points to be monitored, if one does.
