@@ -38,30 +38,20 @@ impl<'a> Asking<'a> {
     }
 
     fn read_ask(self) -> Option<Ask> {
+        let frame = self.frame;
+        let at = self.header.data_at;
         match (self.header.command, self.header.subcommand) {
-            (0x0401, 0x0000) => Some(Ask::Read(self.row(Width::Word)?)),
-            (0x0401, 0x0001) => Some(Ask::Read(self.row(Width::Bit)?)),
-            (0x1401, 0x0000) => Some(Ask::Write(self.row(Width::Word)?)),
-            (0x1401, 0x0001) => Some(Ask::Write(self.row(Width::Bit)?)),
-            (0x0403, 0x0000) => Some(Ask::ReadList(self.words()?)),
-            (0x0801, 0x0000) => Some(Ask::Register(self.words()?)),
+            (0x0401, 0x0000) => Some(Ask::Read(Row::read(frame, at, Width::Word)?)),
+            (0x0401, 0x0001) => Some(Ask::Read(Row::read(frame, at, Width::Bit)?)),
+            (0x1401, 0x0000) => Some(Ask::Write(Row::read(frame, at, Width::Word)?)),
+            (0x1401, 0x0001) => Some(Ask::Write(Row::read(frame, at, Width::Bit)?)),
+            (0x0403, 0x0000) => Some(Ask::ReadList(List::of_words(frame, at)?)),
+            (0x0801, 0x0000) => Some(Ask::Register(List::of_words(frame, at)?)),
             (0x0802, 0x0000) => Some(Ask::Monitor),
-            (0x1402, 0x0000) => Some(Ask::WriteList(self.words()?)),
-            (0x1402, 0x0001) => Some(Ask::WriteList(self.bits()?)),
+            (0x1402, 0x0000) => Some(Ask::WriteList(List::of_words(frame, at)?)),
+            (0x1402, 0x0001) => Some(Ask::WriteList(List::of_bits(frame, at)?)),
             _ => None,
         }
-    }
-
-    fn row(self, unit: Width) -> Option<Row> {
-        Row::read(self.frame, self.header.data_at, unit)
-    }
-
-    fn words(self) -> Option<List> {
-        List::of_words(self.frame, self.header.data_at)
-    }
-
-    fn bits(self) -> Option<List> {
-        List::of_bits(self.frame, self.header.data_at)
     }
 
     // A list of the request, in its frame.

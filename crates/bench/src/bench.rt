@@ -151,6 +151,7 @@ impl<M: WritableMemory + Storage> Bench<M> {
 
     // Tells the points of a device that are not 0, the first 32 of them at most.
     fn tell_points(&self, rt: &HostRuntime, device: Device) -> io::Result<()> {
+        // Counts the points that are printed, of which the end of the line has to know too.
         let mut told = 0u32;
         for number in 0..self.server.memory.extent(device) {
             let value = self.server.memory.read(device, number).unwrap_or(0);

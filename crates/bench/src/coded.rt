@@ -29,6 +29,7 @@ impl<'a> Coded<'a> {
             return None;
         }
         let size = width.bytes();
+        // A code is a type, and a closure that is generic in it cannot be passed: each field picks its reader here.
         let read = match self.code {
             Code::Binary => number_at::<Binary>(self.bytes, at, size),
             Code::Ascii => number_at::<Ascii>(self.bytes, at, size),
@@ -44,6 +45,7 @@ impl<'a> Coded<'a> {
     }
 
     // The number of two bytes at `at`, and where the next field begins.
+    // It differs from the one above in its type alone, and a parameter for the type would be longer than both.
     pub fn word(self, at: usize) -> Option<(u16, usize)> {
         let (value, next) = self.number(at, Width::Word)?;
         Some((u16::try_from(value).ok()?, next))

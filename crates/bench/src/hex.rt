@@ -97,6 +97,7 @@ fn push_word(text: &mut String, word: u16) -> Result<(), AllocError>
 }
 
 // The digits of the words, four a word, the highest first.
+// One function for bytes and words would take the text of a unit as one more argument, and its contract would say less than the two.
 pub fn words_text(heap: Global, words: &[u16]) -> Result<String, AllocError>
     ensures { IfOk result (λ s. string_bytes s ≡ bytes_text (halves words.now)) }
 {

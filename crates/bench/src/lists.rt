@@ -162,6 +162,7 @@ impl Listed<'_> {
     {
         let list = self.list;
         let mut at = list.at;
+        // The index says what an access reaches, and its field stands where the one before ends: a chain would have to carry both.
         for i in 0..list.told() {
             let Some(access) = Access::read(self.frame, at, list.width(i)) else {
                 return tell_unread(rt);

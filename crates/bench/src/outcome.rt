@@ -100,6 +100,7 @@ impl<M: WritableMemory + Storage> Bench<M> {
         }
     }
 
+    // An opening and an ending differ in every text, so one function for both would take four of them.
     fn tell_open(&mut self, rt: &HostRuntime, flag: Option<bool>) -> io::Result<()> {
         match flag {
             Some(flag) => {

@@ -50,6 +50,7 @@ struct Sixteen(u32);
 impl fmt::Display for Sixteen {
     fn fmt<W: fmt::Write>(&self, f: &mut fmt::Formatter<W>) -> fmt::Result {
         let word = self.0;
+        // The index is the number of the bit.
         for i in 0..16u32 {
             if i > 0 && i % 4 == 0 {
                 f.write_str(" ")?;

@@ -15,11 +15,11 @@ fn cut_record(rest: &[u8]) -> Option<(&[u8], &[u8])> {
 
 // The frames of the first records of a sheet, so many as there are up to `count`.
 pub fn first_frames(heap: Global, sheet: &[u8], count: usize) -> Result<Vec<&[u8]>, AllocError> {
-    let records = iter::successors(cut_record(rest(sheet, 1)), |(_, behind)| cut_record(*behind));
-    records
-        .take(count)
-        .map(|(frame, _)| frame)
-        .collect(heap)
+    let records = iter::successors(
+        cut_record(rest(sheet, 1)),
+        |(_, behind)| cut_record(*behind),
+    );
+    records.take(count).map(|(frame, _)| frame).collect(heap)
 }
 
 // The last of the frames that registers points to be monitored, if one does.

@@ -22,6 +22,8 @@ fn fault_of(reason: Reason) -> Option<Fault> {
     }
 }
 
+// How a run ended, in a word.
+// The crate that has the enum prints nothing, and a type around it, made for its Display, would say no more than this function.
 fn reason_name(reason: Reason) -> &'static str {
     match reason {
         Reason::Finished => "finished",

@@ -23,6 +23,8 @@ pub struct Exchange<'a> {
     pub registered: Option<&'a Registered>,
 }
 
+// The name of a frame's form, and below that of a code.
+// The crate that has the enum prints nothing, and a type around it, made for its Display, would say no more than this function.
 fn form_name(form: Form) -> &'static str {
     match form {
         Form::ThreeE => "3E",

@@ -74,6 +74,7 @@ impl fmt::Display for Named {
 }
 
 // The name of a kind.
+// The crate that has the enum prints nothing, and a type around it, made for its Display, would say no more than this function.
 fn kind_name(kind: Kind) -> &'static str {
     match kind {
         Kind::Bit => "bit",
@@ -142,6 +143,7 @@ impl fmt::Display for CauseNumber {
 }
 
 // The name of a layer.
+// A function and no Display: its contract gives the text, and a Display has no clause that could.
 pub fn layer_name(layer: Layer) -> &'static str
     ensures { result.now ≡ layer_text layer }
 {
@@ -171,7 +173,7 @@ impl fmt::Display for FaultShown {
     }
 }
 
-// The name of a flag's state.
+// The name of a flag's state. A function for the same reason.
 pub fn flag_name(flag: bool) -> &'static str
     ensures { result.now ≡ flag_text flag }
 {
@@ -179,6 +181,7 @@ pub fn flag_name(flag: bool) -> &'static str
 }
 
 // What a cause says.
+// A cause has three texts, of which this is one, so none of them is its Display.
 pub fn cause_words(cause: Cause) -> &'static str {
     match cause {
         Cause::NoReplySpace => "the space for the reply is under 4096 bytes",
@@ -231,6 +234,7 @@ pub fn field_words(cause: Cause) -> &'static str {
 }
 
 // Why a point was not set.
+// The crate that has the enum prints nothing, and a type around it, made for its Display, would say no more than this function.
 pub fn refusal_words(refusal: Refusal) -> &'static str {
     match refusal {
         Refusal::NoRoom => "the memory has no room",
