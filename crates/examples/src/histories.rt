@@ -20,10 +20,7 @@ fn sixteen_d() -> [u32; 12] {
 // The cause that a frame met, if it met one.
 fn met(outcome: &Outcome) -> Option<Cause> {
     match outcome {
-        Outcome::Taken { answer, .. } => match answer.fault {
-            Some(fault) => Some(fault.cause),
-            None => None,
-        },
+        Outcome::Taken { answer, .. } => answer.fault.map(|fault| fault.cause),
         _ => None,
     }
 }

@@ -17,10 +17,7 @@ fn write_met(tables: &mut PackedTables<'_>, settings: &Settings) -> Option<Cause
         settings,
         &mut none,
     );
-    match answer.fault {
-        Some(fault) => Some(fault.cause),
-        None => None,
-    }
+    answer.fault.map(|fault| fault.cause)
 }
 
 // Writes once inside a window, which ends with the call.
