@@ -4,7 +4,7 @@ ghost use Rattle.std.specs.Prelude.{◌^◌, ◌<◌, IfSome};
 use crate::width::Width;
 use crate::words::Point;
 use device::Device;
-use frame::{Fault, Header, read_frame};
+use frame::{Fault, Header, read_header};
 use wire::{Ascii, Binary, Code, device_at, number_at, read_digit};
 
 // Bytes as they are sent in a code.
@@ -17,10 +17,7 @@ pub struct Coded<'a> {
 impl<'a> Coded<'a> {
     // The header of the frame that stands at the front.
     pub fn header(self, space: usize) -> Result<Header, Fault> {
-        match self.code {
-            Code::Binary => read_frame::<Binary>(self.bytes, space),
-            Code::Ascii => read_frame::<Ascii>(self.bytes, space),
-        }
+        read_header(self.code, self.bytes, space)
     }
 
     // The number that a value of this width is sent as at `at`, and where the next field begins.

@@ -19,6 +19,7 @@ fn byte(value: u8) -> Number
 }
 
 // A number of two bytes.
+// Two names say in each list of fields which size a field has; a parameter would be a number there.
 fn word(value: u16) -> Number
     ensures { result ≡ two value }
 {

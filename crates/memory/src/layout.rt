@@ -30,6 +30,7 @@ fn units_for(form: Form, kind: Kind, points: u32) -> usize
 }
 
 // The first unit of a point, counted from its device's first.
+// The same table as above but for bits in words, which are counted up there and down here.
 fn unit_of(form: Form, kind: Kind, number: u32) -> usize
     ensures value { result ≡ unit_of form kind number }
     ensures bound { result ≤ 2 ^ 33 }

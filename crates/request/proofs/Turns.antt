@@ -89,14 +89,3 @@ pub in_none_left : {X : Type 0} (q : List ℕ → Result (X × ℕ) FieldFault) 
 in_none_left q xs count i h =
     let z : count - i ≡ 0 = omega arith in
     rw z
-
--- a turn of a loop that carries out points in bits
-pub bits_go_on : (code : Code) (xs : List ℕ) (count i : ℕ) → i < count → bits_in code xs i (count - i) ≡ bit_in code xs i ∷ bits_in code xs (i + 1) (count - (i + 1))
-bits_go_on code xs count i below =
-    let one : count - i ≡ count - (i + 1) + 1 = omega arith in
-    rw (one, add-one (count - (i + 1)))
-
-pub bits_none_left : (code : Code) (xs : List ℕ) (count i : ℕ) → count ≤ i → bits_in code xs i (count - i) ≡ []
-bits_none_left code xs count i h =
-    let z : count - i ≡ 0 = omega arith in
-    rw z

@@ -85,6 +85,7 @@ pub(crate) fn read_bits<'a, C: WireCode, M: ReadableMemory>(
 }
 
 // 0401 with 0000: a batch of words to read.
+// Each command keeps a function of its own, whose promise names it: what they share stands in the rows and the lists.
 pub(crate) fn read_words<'a, C: WireCode, M: ReadableMemory>(
     memory: &M,
     frame: &'a [u8],

@@ -34,6 +34,7 @@ pub(crate) fn number<C: WireCode>(
 }
 
 // The device field at `at`: the device, the number, and the wire bytes it used.
+// Like the number above but for the reader, which is one call: a parameter for it would be longer.
 pub(crate) fn device<C: WireCode>(frame: &[u8], at: usize) -> Result<(Device, u32, usize), Fault>
     requires { at ≤ length frame.now }
     ensures value { result ≡ device_at C.WireCode.which frame.now at }

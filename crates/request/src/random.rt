@@ -178,6 +178,7 @@ fn bits_list<C: WireCode, M: WritableMemory>(
 }
 
 // 0403 with 0000: a random read.
+// Each command keeps a function of its own, whose promise names it: what they share stands in the lists.
 pub(crate) fn read_random<'a, C: WireCode, M: ReadableMemory>(
     memory: &M,
     frame: &'a [u8],

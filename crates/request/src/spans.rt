@@ -55,6 +55,7 @@ pub(crate) fn within<M: ReadableMemory>(
 }
 
 // So many points from `number` on are open; the fault is at the device field, which stands at `at`.
+// It asks a writable memory, and the one above a readable one, so that reading commands need no more: one function cannot.
 pub(crate) fn open<M: WritableMemory>(
     memory: &M,
     device: Device,

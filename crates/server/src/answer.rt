@@ -134,13 +134,9 @@ pub(crate) fn show_registered<C: WireCode, M: ReadableMemory>(
 {
     match registration.count() {
         Some(_) => show_listed::<C, M>(reply, header, memory, registration),
-        None => refuse::<C>(
-            reply,
-            header,
-            Fault {
-                cause: Cause::NotRegistered,
-                place: header.command_at,
-            },
-        ),
+        None => {
+            let fault = Cause::NotRegistered.at(header.command_at);
+            refuse::<C>(reply, header, fault)
+        }
     }
 }

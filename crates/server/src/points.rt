@@ -32,6 +32,7 @@ fn sixteen<M: ReadableMemory>(memory: &M, device: Device, number: usize) -> u16
     ensures { result ≡ packed (M.ReadableMemory.means memory.now).value device number 16 }
 {
     let mut word = 0;
+    // The index is how far a point lies behind the first; a fold over the points would lack that the word still has room for a bit.
     for i in (0..16usize).rev() {
         word = with_bit(word, value_at(memory, device, number + i));
     }

@@ -71,6 +71,7 @@ pub(crate) fn put_bits<C: WireCode, M: WritableMemory>(
     ensures means { M.ReadableMemory.means memory.new ≡ tried (M.ReadableMemory.means memory.old) (in_row device number (bits_in C.WireCode.which bytes.now 0 count)) }
     ensures keeps { M.ReadableMemory.keeps memory.old memory.new }
 {
+    // The index is how far the point lies behind the first, and the place of its bit.
     for i in 0..count {
         put_point(memory, device, number + i as u32, bit_at::<C>(bytes, i));
     }

@@ -1,10 +1,9 @@
 // The records of a sheet: a length of two bytes, the high byte first, and then one request frame.
 ghost use Rattle.std.specs.Prelude.{◌≡◌, ◌+◌, ◌^◌, ◌<◌, ◌≤◌, length, IfSome, IfOk};
-ghost use Rattle.frame.specs.Headers.{tested};
 ghost use Rattle.sheet.specs.Records.{record_size, frame_alone, tested_record};
 
-use frame::{Cause, Fault, Header, read_frame};
-use wire::{Ascii, Binary, Code};
+use frame::{Cause, Fault, read_header};
+use wire::Code;
 
 // The length that the record at `at` says, if the record is all there.
 fn record_size(sheet: &[u8], at: usize) -> Option<usize>
@@ -19,16 +18,6 @@ fn record_size(sheet: &[u8], at: usize) -> Option<usize>
     (size <= rest.len()).then_some(size)
 }
 
-// Tests a frame in the code that the call names.
-fn read_header(code: Code, frame: &[u8], space: usize) -> Result<Header, Fault>
-    ensures { result ≡ tested code space frame.now }
-{
-    match code {
-        Code::Binary => read_frame::<Binary>(frame, space),
-        Code::Ascii => read_frame::<Ascii>(frame, space),
-    }
-}
-
 // The length of the record at `at`, if no bytes stand after its frame of `frame_size` bytes.
 fn frame_alone(at: usize, size: usize, frame_size: usize) -> Result<usize, Fault>
     requires { at + 2 + size < 2 ^ 64 }
@@ -36,10 +25,7 @@ fn frame_alone(at: usize, size: usize, frame_size: usize) -> Result<usize, Fault
     ensures same { IfOk result (λ n. n ≡ size) }
 {
     if frame_size < size {
-        return Err(Fault {
-            cause: Cause::BadRecord,
-            place: at + 2 + frame_size,
-        });
+        return Err(Cause::BadRecord.at(at + 2 + frame_size));
     }
     Ok(size)
 }
@@ -50,10 +36,7 @@ pub(crate) fn test_record(code: Code, sheet: &[u8], at: usize, space: usize) -> 
     ensures value { result ≡ tested_record code space sheet.now at }
     ensures within { IfOk result (λ size. at + 2 + size ≤ length sheet.now) }
 {
-    let size = record_size(sheet, at).ok_or(Fault {
-        cause: Cause::BadRecord,
-        place: at,
-    })?;
+    let size = record_size(sheet, at).ok_or(Cause::BadRecord.at(at))?;
     let front = at + 2;
     let header = read_header(code, &sheet[front..front + size], space)?;
     frame_alone(at, size, header.size)

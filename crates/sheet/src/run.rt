@@ -131,10 +131,7 @@ pub fn run_sheet<M: WritableMemory>(
 {
     if !has_version(sheet) {
         return RunEnd {
-            reason: Reason::Stopped(Fault {
-                cause: Cause::NoVersion,
-                place: 0,
-            }),
+            reason: Reason::Stopped(Cause::NoVersion.at(0)),
             count: 0,
             next: 0,
         };
