@@ -61,6 +61,7 @@ fn lead_bytes(form: Form) -> usize
 }
 
 // The serial, the zero word, and where the route begins.
+// This and the two functions that lead here ask for the subheader that `read_frame` looked for: a struct for that fact would be made and read once.
 fn read_serial<C: WireCode>(frame: &[u8], form: Form) -> Result<(u32, u32, usize), Fault>
     requires { 2 * per_byte C.WireCode.which ≤ length frame.now }
     ensures value { result ≡ serial_at C.WireCode.which form frame.now }

@@ -12,10 +12,7 @@ use memory::ReadableMemory;
 pub(crate) fn value_at<M: ReadableMemory>(memory: &M, device: Device, number: usize) -> u16
     ensures { result ≡ (M.ReadableMemory.means memory.now).value device number }
 {
-    match u32::try_from(number) {
-        Ok(number) => memory.read(device, number).unwrap_or(0),
-        Err(_) => 0,
-    }
+    u32::try_from(number).map_or(0, |number| memory.read(device, number).unwrap_or(0))
 }
 
 // The number with one more bit below it.

@@ -1,4 +1,5 @@
 // Writes words and points to any writable memory.
+// Every function here and in `serve` that is handed the memory promises `keeps`, as a write of the memory does: no type could hold it, since it joins the memory before and after the call.
 ghost use Rattle.std.specs.Prelude.{◌≡◌, ◌+◌, ◌*◌, ◌/◌, ◌%◌, ◌^◌, ◌<◌, ◌≤◌, ◌++◌, drop};
 ghost use Rattle.wire.specs.Numbers.{per_byte, number_in};
 ghost use Rattle.request.specs.Entries.{setting_in};
