@@ -4,6 +4,7 @@
 mod answer;
 mod points;
 mod registration;
+mod reply;
 mod serve;
 mod server;
 mod setting;

@@ -1,5 +1,5 @@
 // Takes one frame and carries its request out.
-ghost use Rattle.std.specs.Prelude.{◌*◌, ◌<◌, ◌≤◌, Bool, length, IfOk, Some, Ok, Option};
+ghost use Rattle.std.specs.Prelude.{◌≡◌, ◌*◌, ◌<◌, ◌≤◌, Bool, length, IfOk, Some, Ok, Option};
 ghost use Rattle.server.specs.Points.{words};
 ghost use Rattle.server.specs.Registered.{registered};
 ghost use Rattle.request.specs.Laws.{Bounded, Passed};
@@ -9,8 +9,9 @@ ghost use Rattle.server.specs.Laws.{FaultsMoveNothing, SpaceKept};
 ghost use Rattle.server.specs.Says.{AlikeAnswer};
 ghost use Rattle.server.specs.Serves.{Came, answered, served};
 
-use crate::answer::{Answer, accept, refuse, show_bits, show_listed, show_registered, show_words};
+use crate::answer::Answer;
 use crate::registration::{Registration, listed};
+use crate::reply::Reply;
 use crate::settings::Settings;
 use crate::storing::{put_bits, put_random, put_random_bits, put_words};
 use frame::{Fault, Header, read_frame};
@@ -20,31 +21,30 @@ use wire::{Ascii, Binary, Code, WireCode};
 
 // Carries out a request that passed its tests. Memory, settings and registration are apart here and below, since a window lends the settings while the others are written.
 fn carry_out<C: WireCode, M: WritableMemory>(
-    reply: &mut [u8],
-    header: Header,
+    reply: &mut Reply<'_>,
     request: Request<'_>,
     memory: &mut M,
     registration: &mut Registration,
 ) -> Answer
-    requires room { 4096 ≤ length reply.old }
     requires whole { IfOk (held (Ok request)) (Whole C.WireCode.which) }
     requires bounded { IfOk (held (Ok request)) (Bounded (M.ReadableMemory.means memory.old)) }
     requires passed { Passed (M.ReadableMemory.means memory.old) (said C.WireCode.which (Ok request)) }
-    ensures came { Came (answered C.WireCode.which header (M.ReadableMemory.means memory.old) (registered registration.old) (said C.WireCode.which (Ok request.entry))) result reply.old reply.new (M.ReadableMemory.means memory.new) (registered registration.new) }
+    ensures came { Came (answered C.WireCode.which reply.old.header (M.ReadableMemory.means memory.old) (registered registration.old) (said C.WireCode.which (Ok request.entry))) result reply.old.space.now reply.new.space.now (M.ReadableMemory.means memory.new) (registered registration.new) }
     ensures keeps { M.ReadableMemory.keeps memory.old memory.new }
-    ensures fits { result.length ≤ length reply.old }
+    ensures space { reply.new.space.ghost_name ≡ reply.old.space.ghost_name }
+    ensures fits { result.length ≤ length reply.old.space.now }
 {
     match request {
         Request::ReadBits {
             device,
             number,
             points,
-        } => show_bits::<C, M>(reply, header, memory, device, number, points),
+        } => reply.show_bits::<C, M>(memory, device, number, points),
         Request::ReadWords {
             device,
             number,
             points,
-        } => show_words::<C, M>(reply, header, memory, device, number, points),
+        } => reply.show_words::<C, M>(memory, device, number, points),
         Request::WriteBits {
             device,
             number,
@@ -53,7 +53,7 @@ fn carry_out<C: WireCode, M: WritableMemory>(
             ..
         } => {
             put_bits::<C, M>(memory, device, number, points, data);
-            accept::<C>(reply, header)
+            reply.accept::<C>()
         }
         Request::WriteWords {
             device,
@@ -63,14 +63,14 @@ fn carry_out<C: WireCode, M: WritableMemory>(
             ..
         } => {
             put_words::<C, M>(memory, device, number, points, data);
-            accept::<C>(reply, header)
+            reply.accept::<C>()
         }
         Request::ReadRandom {
             words,
             doubles,
             list,
             ..
-        } => show_listed::<C, M>(reply, header, memory, &listed::<C>(list, words, doubles)),
+        } => reply.show_listed::<C, M>(memory, &listed::<C>(list, words, doubles)),
         Request::Register {
             words,
             doubles,
@@ -78,12 +78,12 @@ fn carry_out<C: WireCode, M: WritableMemory>(
             ..
         } => {
             *registration = listed::<C>(list, words, doubles);
-            accept::<C>(reply, header)
+            reply.accept::<C>()
         }
-        Request::Monitor => show_registered::<C, M>(reply, header, memory, registration),
+        Request::Monitor => reply.show_registered::<C, M>(memory, registration),
         Request::WriteRandomBits { count, list, .. } => {
             put_random_bits::<C, M>(memory, list, count);
-            accept::<C>(reply, header)
+            reply.accept::<C>()
         }
         Request::WriteRandom {
             words,
@@ -92,49 +92,48 @@ fn carry_out<C: WireCode, M: WritableMemory>(
             ..
         } => {
             put_random::<C, M>(memory, list, words, doubles);
-            accept::<C>(reply, header)
+            reply.accept::<C>()
         }
     }
 }
 
 // Answers a request that was read, or the fault that was found in it, which changes nothing.
 fn answer_request<C: WireCode, M: WritableMemory>(
-    reply: &mut [u8],
-    header: Header,
+    reply: &mut Reply<'_>,
     request: Result<Request<'_>, Fault>,
     memory: &mut M,
     registration: &mut Registration,
 ) -> Answer
-    requires room { 4096 ≤ length reply.old }
     requires whole { IfOk (held request) (Whole C.WireCode.which) }
     requires bounded { IfOk (held request) (Bounded (M.ReadableMemory.means memory.old)) }
     requires passed { Passed (M.ReadableMemory.means memory.old) (said C.WireCode.which request) }
-    ensures came { Came (answered C.WireCode.which header (M.ReadableMemory.means memory.old) (registered registration.old) (said C.WireCode.which request.entry)) result reply.old reply.new (M.ReadableMemory.means memory.new) (registered registration.new) }
+    ensures came { Came (answered C.WireCode.which reply.old.header (M.ReadableMemory.means memory.old) (registered registration.old) (said C.WireCode.which request.entry)) result reply.old.space.now reply.new.space.now (M.ReadableMemory.means memory.new) (registered registration.new) }
     ensures keeps { M.ReadableMemory.keeps memory.old memory.new }
-    ensures fits { result.length ≤ length reply.old }
+    ensures space { reply.new.space.ghost_name ≡ reply.old.space.ghost_name }
+    ensures fits { result.length ≤ length reply.old.space.now }
 {
     match request {
-        Ok(request) => carry_out::<C, M>(reply, header, request, memory, registration),
-        Err(fault) => refuse::<C>(reply, header, fault),
+        Ok(request) => carry_out::<C, M>(reply, request, memory, registration),
+        Err(fault) => reply.refuse::<C>(fault),
     }
 }
 
 // Answers a frame that passed its tests: `frame` is the frame alone.
 fn answer_frame<C: WireCode, M: WritableMemory>(
     frame: &[u8],
-    reply: &mut [u8],
-    header: Header,
+    reply: &mut Reply<'_>,
     memory: &mut M,
     settings: &Settings,
     registration: &mut Registration,
 ) -> Answer
-    requires { (4096 ≤ length reply.old) × (header.data_at ≤ length frame.now) }
-    ensures came { Came (answered C.WireCode.which header (M.ReadableMemory.means memory.old) (registered registration.old) (request_in C.WireCode.which (M.ReadableMemory.means memory.old) settings.now.write_flag header frame.now)) result reply.old reply.new (M.ReadableMemory.means memory.new) (registered registration.new) }
+    requires { reply.old.header.data_at ≤ length frame.now }
+    ensures came { Came (answered C.WireCode.which reply.old.header (M.ReadableMemory.means memory.old) (registered registration.old) (request_in C.WireCode.which (M.ReadableMemory.means memory.old) settings.now.write_flag reply.old.header frame.now)) result reply.old.space.now reply.new.space.now (M.ReadableMemory.means memory.new) (registered registration.new) }
     ensures keeps { M.ReadableMemory.keeps memory.old memory.new }
-    ensures fits { result.length ≤ length reply.old }
+    ensures space { reply.new.space.ghost_name ≡ reply.old.space.ghost_name }
+    ensures fits { result.length ≤ length reply.old.space.now }
 {
-    let request = read_request::<C, M>(memory, frame, header, settings.write_flag);
-    answer_request::<C, M>(reply, header, request, memory, registration)
+    let request = read_request::<C, M>(memory, frame, reply.header, settings.write_flag);
+    answer_request::<C, M>(reply, request, memory, registration)
 }
 
 // Takes the frame at the front of `frame`, in the code that the trait says.
@@ -152,8 +151,10 @@ fn serve<C: WireCode, M: WritableMemory>(
     match read_frame::<C>(frame, reply.len()) {
         Ok(header) => answer_frame::<C, M>(
             &frame[..header.size],
-            reply,
-            header,
+            &mut Reply {
+                space: reply,
+                header,
+            },
             memory,
             settings,
             registration,

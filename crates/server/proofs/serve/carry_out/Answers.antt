@@ -16,10 +16,11 @@ returns-in-WriteBits g c =
     let p = subst (λ (q : Request). Passed m (said code (Ok q))) c.in-WriteBits.is c.requires.passed in
     let put = c.put_bits.ensures in
     record {
-      came = subst (λ (q : Request). Came (answered code c.args.header m l (said code (Ok q))) c.accept.result c.args.reply.now c.accept.new.reply (g.M.ReadableMemory.means c.put_bits.new.memory) l)
+      came = subst (λ (q : Request). Came (answered code c.args.reply.now.header m l (said code (Ok q))) c.accept.result c.args.reply.now.space.now c.accept.new.self.space.now (g.M.ReadableMemory.means c.put_bits.new.memory) l)
           (sym c.in-WriteBits.is)
-          (came_wrote code c.args.header m _ l _ _ _ _ put.means (bits_written m _ _ _ _ p) c.accept.ensures.tells);
+          (came_wrote code c.args.reply.now.header m _ l _ _ _ _ put.means (bits_written m _ _ _ _ p) c.accept.ensures.tells);
       keeps = put.keeps;
+      space = c.accept.ensures.space;
       fits = c.accept.ensures.fits;
     }
 
@@ -32,10 +33,11 @@ returns-in-WriteWords g c =
     let put = c.put_words.ensures in
     let a = c.accept-in-WriteWords in
     record {
-      came = subst (λ (q : Request). Came (answered code c.args.header m l (said code (Ok q))) a.result c.args.reply.now a.new.reply (g.M.ReadableMemory.means c.put_words.new.memory) l)
+      came = subst (λ (q : Request). Came (answered code c.args.reply.now.header m l (said code (Ok q))) a.result c.args.reply.now.space.now a.new.self.space.now (g.M.ReadableMemory.means c.put_words.new.memory) l)
           (sym c.in-WriteWords.is)
-          (came_wrote code c.args.header m _ l _ _ _ _ put.means (words_written m _ _ _ _ put.small p) a.ensures.tells);
+          (came_wrote code c.args.reply.now.header m _ l _ _ _ _ put.means (words_written m _ _ _ _ put.small p) a.ensures.tells);
       keeps = put.keeps;
+      space = a.ensures.space;
       fits = a.ensures.fits;
     }
 
@@ -48,10 +50,11 @@ returns-in-WriteRandomBits g c =
     let put = c.put_random_bits.ensures in
     let a = c.accept-in-WriteRandomBits in
     record {
-      came = subst (λ (q : Request). Came (answered code c.args.header m l (said code (Ok q))) a.result c.args.reply.now a.new.reply (g.M.ReadableMemory.means c.put_random_bits.new.memory) l)
+      came = subst (λ (q : Request). Came (answered code c.args.reply.now.header m l (said code (Ok q))) a.result c.args.reply.now.space.now a.new.self.space.now (g.M.ReadableMemory.means c.put_random_bits.new.memory) l)
           (sym c.in-WriteRandomBits.is)
-          (came_wrote code c.args.header m _ l _ _ _ _ put.means (random_bits_written m _ _ p) a.ensures.tells);
+          (came_wrote code c.args.reply.now.header m _ l _ _ _ _ put.means (random_bits_written m _ _ p) a.ensures.tells);
       keeps = put.keeps;
+      space = a.ensures.space;
       fits = a.ensures.fits;
     }
 
@@ -64,10 +67,11 @@ returns-in-WriteRandom g c =
     let put = c.put_random.ensures in
     let a = c.accept-in-WriteRandom in
     record {
-      came = subst (λ (q : Request). Came (answered code c.args.header m l (said code (Ok q))) a.result c.args.reply.now a.new.reply (g.M.ReadableMemory.means c.put_random.new.memory) l)
+      came = subst (λ (q : Request). Came (answered code c.args.reply.now.header m l (said code (Ok q))) a.result c.args.reply.now.space.now a.new.self.space.now (g.M.ReadableMemory.means c.put_random.new.memory) l)
           (sym c.in-WriteRandom.is)
-          (came_wrote code c.args.header m _ l _ _ _ _ put.means (random_written m _ _ _ put.words put.doubles p) a.ensures.tells);
+          (came_wrote code c.args.reply.now.header m _ l _ _ _ _ put.means (random_written m _ _ _ put.words put.doubles p) a.ensures.tells);
       keeps = put.keeps;
+      space = a.ensures.space;
       fits = a.ensures.fits;
     }
 

@@ -1,0 +1,133 @@
+// The replies that a call writes.
+ghost use Rattle.std.specs.Prelude.{◌≡◌, ◌+◌, ◌*◌, ◌<◌, ◌≤◌, length, Some, None};
+ghost use Rattle.device.specs.Devices.{kind_of};
+ghost use Rattle.device.specs.declared.types.Kind.TheVariants.{Bit};
+ghost use Rattle.server.specs.Points.{words, bits};
+ghost use Rattle.server.specs.Registered.{registered, words_in, doubles_in};
+ghost use Rattle.server.specs.Answers.{accepted, refused, no_data, in_bits, in_words, answer_bytes};
+ghost use Rattle.server.specs.Serves.{Tells, shown, monitored, late_fault};
+
+use crate::answer::Answer;
+use crate::points::Width;
+use crate::registration::Registration;
+use crate::showing::{write_accesses, write_bits, write_words};
+use device::Device;
+use frame::{Cause, Fault, Header, write_error_data, write_head};
+use memory::ReadableMemory;
+use wire::WireCode;
+
+// The reply space of a frame that was taken up, and what its header said.
+#[derive(Drop)]
+pub(crate) struct Reply<'a> {
+    pub space: &'a mut [u8],
+    pub header: Header,
+    ghost room: { 4096 ≤ length space.now },
+}
+
+impl Reply<'_> {
+    // The error reply.
+    pub(crate) fn refuse<C: WireCode>(&mut self, fault: Fault) -> Answer
+        ensures tells { Tells self.old.header.size (answer_bytes C.WireCode.which self.old.header (refused fault.cause)) (Some fault) result self.old.space.now self.new.space.now }
+        ensures space { self.new.space.ghost_name ≡ self.old.space.ghost_name }
+        ensures fits { result.length ≤ length self.old.space.now }
+    {
+        let at = write_head::<C>(
+            self.space,
+            self.header,
+            C::field_size(9),
+            fault.cause.number(),
+        );
+        let length = write_error_data::<C>(self.space, at, self.header);
+        Answer {
+            taken: self.header.size,
+            length,
+            fault: Some(fault),
+        }
+    }
+
+    // The reply to a batch read in words. It and the next are apart, since a function that takes the size and what writes the data would be no shorter.
+    pub(crate) fn show_words<C: WireCode, M: ReadableMemory>(
+        &mut self,
+        memory: &M,
+        device: Device,
+        number: u32,
+        points: usize,
+    ) -> Answer
+        requires { points ≤ 960 }
+        ensures tells { Tells self.old.header.size (answer_bytes C.WireCode.which self.old.header (accepted (in_words (words (M.ReadableMemory.means memory.now).value device number points)))) None result self.old.space.now self.new.space.now }
+        ensures space { self.new.space.ghost_name ≡ self.old.space.ghost_name }
+        ensures fits { result.length ≤ length self.old.space.now }
+    {
+        let size = points * C::field_size(2);
+        let at = write_head::<C>(self.space, self.header, size, 0);
+        write_words::<C, M>(self.space, at, memory, device, number, points);
+        Answer::accepted(self.header, at + size)
+    }
+
+    // The reply to a batch read in bits.
+    pub(crate) fn show_bits<C: WireCode, M: ReadableMemory>(
+        &mut self,
+        memory: &M,
+        device: Device,
+        number: u32,
+        points: usize,
+    ) -> Answer
+        requires { (points ≤ 3584) × (kind_of device ≡ Bit) }
+        ensures tells { Tells self.old.header.size (answer_bytes C.WireCode.which self.old.header (accepted (in_bits (bits (M.ReadableMemory.means memory.now).value device number points)))) None result self.old.space.now self.new.space.now }
+        ensures space { self.new.space.ghost_name ≡ self.old.space.ghost_name }
+        ensures fits { result.length ≤ length self.old.space.now }
+    {
+        let size = C::bits_size(points);
+        let at = write_head::<C>(self.space, self.header, size, 0);
+        write_bits::<C, M>(self.space, at, memory, device, number, points);
+        Answer::accepted(self.header, at + size)
+    }
+
+    // The reply to a request that was carried out and has no data to show.
+    pub(crate) fn accept<C: WireCode>(&mut self) -> Answer
+        ensures tells { Tells self.old.header.size (answer_bytes C.WireCode.which self.old.header (accepted no_data)) None result self.old.space.now self.new.space.now }
+        ensures space { self.new.space.ghost_name ≡ self.old.space.ghost_name }
+        ensures fits { result.length ≤ length self.old.space.now }
+    {
+        let at = write_head::<C>(self.space, self.header, 0, 0);
+        Answer::accepted(self.header, at)
+    }
+
+    // The reply that shows a list of accesses.
+    pub(crate) fn show_listed<C: WireCode, M: ReadableMemory>(
+        &mut self,
+        memory: &M,
+        list: &Registration,
+    ) -> Answer
+        ensures tells { Tells self.old.header.size (answer_bytes C.WireCode.which self.old.header (shown (M.ReadableMemory.means memory.now) (words_in list.now, doubles_in list.now))) None result self.old.space.now self.new.space.now }
+        ensures space { self.new.space.ghost_name ≡ self.old.space.ghost_name }
+        ensures fits { result.length ≤ length self.old.space.now }
+    {
+        let words = list.words();
+        let doubles = list.doubles();
+        let size = words.len() * C::field_size(2) + doubles.len() * C::field_size(4);
+        let at = write_head::<C>(self.space, self.header, size, 0);
+        let at_doubles = write_accesses::<C, M>(self.space, at, memory, words, Width::Word);
+        let length = write_accesses::<C, M>(self.space, at_doubles, memory, doubles, Width::Double);
+        Answer::accepted(self.header, length)
+    }
+
+    // The reply to a monitor request: the registered list, or that there is none.
+    pub(crate) fn show_registered<C: WireCode, M: ReadableMemory>(
+        &mut self,
+        memory: &M,
+        registration: &Registration,
+    ) -> Answer
+        ensures tells { Tells self.old.header.size (answer_bytes C.WireCode.which self.old.header (monitored (M.ReadableMemory.means memory.now) (registered registration.now))) (late_fault self.old.header (monitored (M.ReadableMemory.means memory.now) (registered registration.now))) result self.old.space.now self.new.space.now }
+        ensures space { self.new.space.ghost_name ≡ self.old.space.ghost_name }
+        ensures fits { result.length ≤ length self.old.space.now }
+    {
+        match registration.count() {
+            Some(_) => self.show_listed::<C, M>(memory, registration),
+            None => {
+                let fault = Cause::NotRegistered.at(self.header.command_at);
+                self.refuse::<C>(fault)
+            }
+        }
+    }
+}
