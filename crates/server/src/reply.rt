@@ -25,6 +25,19 @@ pub(crate) struct Reply<'a> {
 }
 
 impl Reply<'_> {
+    // The answer to the frame, which was taken whole, with a reply of this length and any fault.
+    fn answer(&self, length: usize, fault: Option<Fault>) -> Answer
+        ensures taken { result.taken ≡ self.now.header.size }
+        ensures length { result.length ≡ length }
+        ensures fault { result.fault ≡ fault }
+    {
+        Answer {
+            taken: self.header.size,
+            length,
+            fault,
+        }
+    }
+
     // The error reply.
     pub(crate) fn refuse<C: WireCode>(&mut self, fault: Fault) -> Answer
         ensures tells { Tells self.old.header.size (answer_bytes C.WireCode.which self.old.header (refused fault.cause)) (Some fault) result self.old.space.now self.new.space.now }
@@ -38,11 +51,7 @@ impl Reply<'_> {
             fault.cause.number(),
         );
         let length = write_error_data::<C>(self.space, at, self.header);
-        Answer {
-            taken: self.header.size,
-            length,
-            fault: Some(fault),
-        }
+        self.answer(length, Some(fault))
     }
 
     // The reply to a batch read in words. It and the next are apart, since a function that takes the size and what writes the data would be no shorter.
@@ -61,7 +70,7 @@ impl Reply<'_> {
         let size = points * C::field_size(2);
         let at = write_head::<C>(self.space, self.header, size, 0);
         write_words::<C, M>(self.space, at, memory, device, number, points);
-        Answer::accepted(self.header, at + size)
+        self.answer(at + size, None)
     }
 
     // The reply to a batch read in bits.
@@ -80,7 +89,7 @@ impl Reply<'_> {
         let size = C::bits_size(points);
         let at = write_head::<C>(self.space, self.header, size, 0);
         write_bits::<C, M>(self.space, at, memory, device, number, points);
-        Answer::accepted(self.header, at + size)
+        self.answer(at + size, None)
     }
 
     // The reply to a request that was carried out and has no data to show.
@@ -90,7 +99,7 @@ impl Reply<'_> {
         ensures fits { result.length ≤ length self.old.space.now }
     {
         let at = write_head::<C>(self.space, self.header, 0, 0);
-        Answer::accepted(self.header, at)
+        self.answer(at, None)
     }
 
     // The reply that shows a list of accesses.
@@ -109,7 +118,7 @@ impl Reply<'_> {
         let at = write_head::<C>(self.space, self.header, size, 0);
         let at_doubles = write_accesses::<C, M>(self.space, at, memory, words, Width::Word);
         let length = write_accesses::<C, M>(self.space, at_doubles, memory, doubles, Width::Double);
-        Answer::accepted(self.header, length)
+        self.answer(length, None)
     }
 
     // The reply to a monitor request: the registered list, or that there is none.

@@ -12,7 +12,7 @@ returns-clause-tells g c =
     let V = (g.M.ReadableMemory.means x.memory.now).value in
     let vs = bits V x.device x.number x.points in
     let head = c.write_head-at.ensures in
-    let done = c.accepted.ensures in
+    let done = c.answer.ensures in
     told code x.self.now.header 0 _ c.write_head-at.result None (bits_bytes code vs) x.self.now.space.now c.write_head-at.new.out _ _
     done.taken done.length done.fault
     (length_bits_bytes code vs ∙ ap (bits_size code) (length_bits V x.device x.number x.points) ∙ sym c.bits_size-size.ensures) head.end head.written c.write_bits.ensures

@@ -34,9 +34,9 @@ returns-clause-tells g c =
     two.written ∙ (λ i. sets (one.written i) (one.end i) second) ∙ sets_sets c.write_head-at.new.out at (length ws * (2 * per_byte code)) first second long in
     let ended : c.write_accesses-length.result ≡ at + (length ws * c.field_size.result + length ds * c.field_size-2.result) =
     omega (arith, two.end, one.end, ap (λ k. length ws * k) c.field_size.ensures, ap (λ k. length ds * k) c.field_size-2.ensures) in
-    let done = c.accepted.ensures in
-    let t = told code x.self.now.header 0 _ at None (first ++ second) x.self.now.space.now c.write_head-at.new.out _ c.accepted.result done.taken (done.length ∙ ended) done.fault size head.end head.written put in
+    let done = c.answer.ensures in
+    let t = told code x.self.now.header 0 _ at None (first ++ second) x.self.now.space.now c.write_head-at.new.out _ c.answer.result done.taken (done.length ∙ ended) done.fault size head.end head.written put in
     let T : List (Device × ℕ) → List (Device × ℕ) → Type 0 =
     λ us vs. Tells x.self.now.header.size (reply_bytes code x.self.now.header 0 (values_bytes code 2 (values_of Word V us) ++ values_bytes code 4 (values_of Double V vs))) None
-    c.accepted.result x.self.now.space.now c.write_accesses-length.new.out in
+    c.answer.result x.self.now.space.now c.write_accesses-length.new.out in
     subst (λ us. T us (doubles_in x.list.now)) c.words-words.ensures.value (subst (λ vs. T (accesses ws) vs) c.doubles-doubles.ensures.value t)
