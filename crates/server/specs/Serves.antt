@@ -90,6 +90,10 @@ pub record Tells (taken : ℕ) (bytes : List ℕ) (met : Option Fault) (a : Answ
   pub meets : a.fault ≡ met
   pub reply : after ≡ sets before 0 bytes
 
+-- an answer tells what a request that was carried out is answered, and the reply space holds it
+abbrev pub Replies : Code → Header → Answered → Answer → List ℕ → List ℕ → Type 0
+Replies code h d a before after = Tells h.size (answer_bytes code h d) (late_fault h d) a before after
+
 -- a call came to this
 pub record Came (s : Served) (a : Answer) (before after : List ℕ) (m : Meaning) (g : Option Listed) : Type 0 where
   pub tells : Tells s.taken s.bytes s.fault_met a before after

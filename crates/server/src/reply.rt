@@ -5,7 +5,7 @@ ghost use Rattle.device.specs.declared.types.Kind.TheVariants.{Bit};
 ghost use Rattle.server.specs.Points.{words, bits};
 ghost use Rattle.server.specs.Registered.{registered, words_in, doubles_in};
 ghost use Rattle.server.specs.Answers.{accepted, refused, no_data, in_bits, in_words, answer_bytes};
-ghost use Rattle.server.specs.Serves.{Tells, shown, monitored, late_fault};
+ghost use Rattle.server.specs.Serves.{Tells, Replies, shown, monitored};
 
 use crate::answer::Answer;
 use crate::points::Width;
@@ -41,15 +41,11 @@ impl Reply<'_> {
     // The error reply.
     pub(crate) fn refuse<C: WireCode>(&mut self, fault: Fault) -> Answer
         ensures tells { Tells self.old.header.size (answer_bytes C.WireCode.which self.old.header (refused fault.cause)) (Some fault) result self.old.space.now self.new.space.now }
-        ensures space { self.new.space.ghost_name ≡ self.old.space.ghost_name }
+        ensures name { self.new.space.ghost_name ≡ self.old.space.ghost_name }
         ensures fits { result.length ≤ length self.old.space.now }
     {
-        let at = write_head::<C>(
-            self.space,
-            self.header,
-            C::field_size(9),
-            fault.cause.number(),
-        );
+        let size = C::field_size(9);
+        let at = write_head::<C>(self.space, self.header, size, fault.cause.number());
         let length = write_error_data::<C>(self.space, at, self.header);
         self.answer(length, Some(fault))
     }
@@ -63,8 +59,8 @@ impl Reply<'_> {
         points: usize,
     ) -> Answer
         requires { points ≤ 960 }
-        ensures tells { Tells self.old.header.size (answer_bytes C.WireCode.which self.old.header (accepted (in_words (words (M.ReadableMemory.means memory.now).value device number points)))) None result self.old.space.now self.new.space.now }
-        ensures space { self.new.space.ghost_name ≡ self.old.space.ghost_name }
+        ensures tells { Replies C.WireCode.which self.old.header (accepted (in_words (words (M.ReadableMemory.means memory.now).value device number points))) result self.old.space.now self.new.space.now }
+        ensures name { self.new.space.ghost_name ≡ self.old.space.ghost_name }
         ensures fits { result.length ≤ length self.old.space.now }
     {
         let size = points * C::field_size(2);
@@ -82,8 +78,8 @@ impl Reply<'_> {
         points: usize,
     ) -> Answer
         requires { (points ≤ 3584) × (kind_of device ≡ Bit) }
-        ensures tells { Tells self.old.header.size (answer_bytes C.WireCode.which self.old.header (accepted (in_bits (bits (M.ReadableMemory.means memory.now).value device number points)))) None result self.old.space.now self.new.space.now }
-        ensures space { self.new.space.ghost_name ≡ self.old.space.ghost_name }
+        ensures tells { Replies C.WireCode.which self.old.header (accepted (in_bits (bits (M.ReadableMemory.means memory.now).value device number points))) result self.old.space.now self.new.space.now }
+        ensures name { self.new.space.ghost_name ≡ self.old.space.ghost_name }
         ensures fits { result.length ≤ length self.old.space.now }
     {
         let size = C::bits_size(points);
@@ -94,8 +90,8 @@ impl Reply<'_> {
 
     // The reply to a request that was carried out and has no data to show.
     pub(crate) fn accept<C: WireCode>(&mut self) -> Answer
-        ensures tells { Tells self.old.header.size (answer_bytes C.WireCode.which self.old.header (accepted no_data)) None result self.old.space.now self.new.space.now }
-        ensures space { self.new.space.ghost_name ≡ self.old.space.ghost_name }
+        ensures tells { Replies C.WireCode.which self.old.header (accepted no_data) result self.old.space.now self.new.space.now }
+        ensures name { self.new.space.ghost_name ≡ self.old.space.ghost_name }
         ensures fits { result.length ≤ length self.old.space.now }
     {
         let at = write_head::<C>(self.space, self.header, 0, 0);
@@ -108,8 +104,8 @@ impl Reply<'_> {
         memory: &M,
         list: &Registration,
     ) -> Answer
-        ensures tells { Tells self.old.header.size (answer_bytes C.WireCode.which self.old.header (shown (M.ReadableMemory.means memory.now) (words_in list.now, doubles_in list.now))) None result self.old.space.now self.new.space.now }
-        ensures space { self.new.space.ghost_name ≡ self.old.space.ghost_name }
+        ensures tells { Replies C.WireCode.which self.old.header (shown (M.ReadableMemory.means memory.now) (words_in list.now, doubles_in list.now)) result self.old.space.now self.new.space.now }
+        ensures name { self.new.space.ghost_name ≡ self.old.space.ghost_name }
         ensures fits { result.length ≤ length self.old.space.now }
     {
         let words = list.words();
@@ -127,8 +123,8 @@ impl Reply<'_> {
         memory: &M,
         registration: &Registration,
     ) -> Answer
-        ensures tells { Tells self.old.header.size (answer_bytes C.WireCode.which self.old.header (monitored (M.ReadableMemory.means memory.now) (registered registration.now))) (late_fault self.old.header (monitored (M.ReadableMemory.means memory.now) (registered registration.now))) result self.old.space.now self.new.space.now }
-        ensures space { self.new.space.ghost_name ≡ self.old.space.ghost_name }
+        ensures tells { Replies C.WireCode.which self.old.header (monitored (M.ReadableMemory.means memory.now) (registered registration.now)) result self.old.space.now self.new.space.now }
+        ensures name { self.new.space.ghost_name ≡ self.old.space.ghost_name }
         ensures fits { result.length ≤ length self.old.space.now }
     {
         match registration.count() {

@@ -31,7 +31,7 @@ fn carry_out<C: WireCode, M: WritableMemory>(
     requires passed { Passed (M.ReadableMemory.means memory.old) (said C.WireCode.which (Ok request)) }
     ensures came { Came (answered C.WireCode.which reply.old.header (M.ReadableMemory.means memory.old) (registered registration.old) (said C.WireCode.which (Ok request.entry))) result reply.old.space.now reply.new.space.now (M.ReadableMemory.means memory.new) (registered registration.new) }
     ensures keeps { M.ReadableMemory.keeps memory.old memory.new }
-    ensures space { reply.new.space.ghost_name ≡ reply.old.space.ghost_name }
+    ensures name { reply.new.space.ghost_name ≡ reply.old.space.ghost_name }
     ensures fits { result.length ≤ length reply.old.space.now }
 {
     match request {
@@ -109,7 +109,7 @@ fn answer_request<C: WireCode, M: WritableMemory>(
     requires passed { Passed (M.ReadableMemory.means memory.old) (said C.WireCode.which request) }
     ensures came { Came (answered C.WireCode.which reply.old.header (M.ReadableMemory.means memory.old) (registered registration.old) (said C.WireCode.which request.entry)) result reply.old.space.now reply.new.space.now (M.ReadableMemory.means memory.new) (registered registration.new) }
     ensures keeps { M.ReadableMemory.keeps memory.old memory.new }
-    ensures space { reply.new.space.ghost_name ≡ reply.old.space.ghost_name }
+    ensures name { reply.new.space.ghost_name ≡ reply.old.space.ghost_name }
     ensures fits { result.length ≤ length reply.old.space.now }
 {
     match request {
@@ -129,7 +129,7 @@ fn answer_frame<C: WireCode, M: WritableMemory>(
     requires { reply.old.header.data_at ≤ length frame.now }
     ensures came { Came (answered C.WireCode.which reply.old.header (M.ReadableMemory.means memory.old) (registered registration.old) (request_in C.WireCode.which (M.ReadableMemory.means memory.old) settings.now.write_flag reply.old.header frame.now)) result reply.old.space.now reply.new.space.now (M.ReadableMemory.means memory.new) (registered registration.new) }
     ensures keeps { M.ReadableMemory.keeps memory.old memory.new }
-    ensures space { reply.new.space.ghost_name ≡ reply.old.space.ghost_name }
+    ensures name { reply.new.space.ghost_name ≡ reply.old.space.ghost_name }
     ensures fits { result.length ≤ length reply.old.space.now }
 {
     let request = read_request::<C, M>(memory, frame, reply.header, settings.write_flag);

@@ -20,7 +20,7 @@ returns-in-WriteBits g c =
           (sym c.in-WriteBits.is)
           (came_wrote code c.args.reply.now.header m _ l _ _ _ _ put.means (bits_written m _ _ _ _ p) c.accept.ensures.tells);
       keeps = put.keeps;
-      space = c.accept.ensures.space;
+      name = c.accept.ensures.name;
       fits = c.accept.ensures.fits;
     }
 
@@ -37,7 +37,7 @@ returns-in-WriteWords g c =
           (sym c.in-WriteWords.is)
           (came_wrote code c.args.reply.now.header m _ l _ _ _ _ put.means (words_written m _ _ _ _ put.small p) a.ensures.tells);
       keeps = put.keeps;
-      space = a.ensures.space;
+      name = a.ensures.name;
       fits = a.ensures.fits;
     }
 
@@ -54,7 +54,7 @@ returns-in-WriteRandomBits g c =
           (sym c.in-WriteRandomBits.is)
           (came_wrote code c.args.reply.now.header m _ l _ _ _ _ put.means (random_bits_written m _ _ p) a.ensures.tells);
       keeps = put.keeps;
-      space = a.ensures.space;
+      name = a.ensures.name;
       fits = a.ensures.fits;
     }
 
@@ -71,7 +71,7 @@ returns-in-WriteRandom g c =
           (sym c.in-WriteRandom.is)
           (came_wrote code c.args.reply.now.header m _ l _ _ _ _ put.means (random_written m _ _ _ put.words put.doubles p) a.ensures.tells);
       keeps = put.keeps;
-      space = a.ensures.space;
+      name = a.ensures.name;
       fits = a.ensures.fits;
     }
 
