@@ -2,14 +2,17 @@
 use Rattle.std.proofs.Common.{◌≡◌, ℕ, zero, suc, ◌+◌, ◌-◌, ◌/◌, ◌%◌, ◌^◌, ◌<◌, ◌≤◌, Bool, true, false, cond, ◌&&◌, eqb, leb, List, [], ◌∷◌, length, drop, IfOk, OnOk, Ok, Err, Result, sym, refl, ap, ◌∙◌, add-one, arith, drop-drop}
 use Rattle.std.specs.List.{list_all, range_with_len}
 use Rattle.std.proofs.lemmas.List.{get_or_past}
+use Rattle.memory.specs.Meaning.{Meaning}
 use Rattle.wire.specs.declared.code.Code.{Code}
 use Rattle.wire.specs.declared.code.Code.TheVariants.{Binary, Ascii}
 use Rattle.wire.specs.declared.code.FieldFault.{FieldFault}
 use Rattle.wire.specs.Numbers.{then}
 use Rattle.wire.specs.Points.{bits_size}
 use Rattle.frame.specs.declared.fault.Fault.{Fault}
-use Rattle.request.specs.Fields.{list_end, CanRead, ReadsWithin, list_in, while_read, bit_in, bits_in}
-use Rattle.request.specs.Limits.{all_bits}
+use Rattle.request.specs.Fields.{number_at, list_end, ends, CanRead, ReadsWithin, list_in, while_read, bit_in, bits_in}
+use Rattle.request.specs.Limits.{random_bits_ok, all_bits}
+use Rattle.request.specs.Entries.{bit_setting_at}
+use Rattle.request.specs.Lists.{bits_list}
 
 -- entries that begin within a bound and end within it may all be read
 pub can_read : {X : Type 0} (asks : ℕ → Type 0) (gives : ℕ → Result (X × ℕ) Fault → Type 0) (bound : ℕ) → bound < 2 ^ 64 → ReadsWithin asks gives bound → (n at : ℕ) → at ≤ bound → CanRead asks gives n at
@@ -51,6 +54,12 @@ pub there_if_read : {X : Type 0} (bytes : List ℕ) (r : ℕ → Result (X × �
     → (n at : ℕ) (y : Result ℕ Fault) → y ≡ list_end r n at → OnOk y (length (list_in q n (drop at bytes)) ≡ n)
 there_if_read bytes r q reads n at (Ok end) e = all_there bytes r q reads n at end (sym e)
 there_if_read bytes r q reads n at (Err f) e = tt
+
+-- the list of a random write in bits, once its entries were read to their end
+pub bits_read : (code : Code) (m : Meaning) (bytes : List ℕ) (at n used place last : ℕ)
+    → number_at code bytes at 1 ≡ Ok (n, used) → random_bits_ok n ≡ true → place ≡ at + used → list_end (bit_setting_at code m bytes) n place ≡ Ok last
+    → bits_list code m bytes at ≡ ends bytes last (n, place)
+bits_read code m bytes at n used place last e b p l = rw (e, b, sym p, l)
 
 -- points that are to be bits, by the index of each
 pub all_bits_from : (code : Code) (xs : List ℕ) (i n : ℕ) → list_all (λ k. leb (bit_in code xs k) 1) (range_with_len i n) ≡ all_bits (bits_in code xs i n)

@@ -9,7 +9,7 @@ ghost use Rattle.request.specs.Requests.{ReadBits, ReadWords, WriteBits, WriteWo
 ghost use Rattle.request.specs.Readings.{held, said, Whole, Stands};
 
 use crate::entries::bit_at;
-use crate::fields;
+use crate::fields::{self, Place};
 use crate::spans::{open, points_of, within};
 use crate::types::Request;
 use device::{Device, Kind};
@@ -18,65 +18,60 @@ use memory::{ReadableMemory, WritableMemory};
 use wire::WireCode;
 
 // The row of a batch in bits: the device, the first number, how many points, and where what follows them begins.
-fn bit_row<C: WireCode, M: ReadableMemory>(
+fn bit_row<'a, C: WireCode, M: ReadableMemory>(
     memory: &M,
-    frame: &[u8],
-    at: usize,
-) -> Result<(Device, u32, usize, usize), Fault>
-    requires { at ≤ length frame.now }
-    ensures row { IfOk result (IsBitRow C.WireCode.which (M.ReadableMemory.means memory.now) frame.now at) }
-    ensures few { IfOk result (λ r. (r.1 < 2 ^ 24) × (r.2 ≤ 3584) × (r.3 ≤ length frame.now)) }
-    ensures declined { IfErr result (λ e. (judged C.WireCode.which (M.ReadableMemory.means memory.now) ReadBits frame.now at ≡ Err e) × (judged C.WireCode.which (M.ReadableMemory.means memory.now) WriteBits frame.now at ≡ Err e)) }
+    place: Place<'a>,
+) -> Result<(Device, u32, usize, Place<'a>), Fault>
+    ensures row { IfOk result (λ r. IsBitRow C.WireCode.which (M.ReadableMemory.means memory.now) place.entry.frame.now place.entry.at (r.0, r.1, r.2, r.3.at)) }
+    ensures few { IfOk result (λ r. (r.1 < 2 ^ 24) × (r.2 ≤ 3584) × (r.3.frame.now ≡ place.entry.frame.now)) }
+    ensures declined { IfErr result (λ e. (judged C.WireCode.which (M.ReadableMemory.means memory.now) ReadBits place.entry.frame.now place.entry.at ≡ Err e) × (judged C.WireCode.which (M.ReadableMemory.means memory.now) WriteBits place.entry.frame.now place.entry.at ≡ Err e)) }
 {
-    let (device, number, used) = fields::device::<C>(frame, at)?;
+    let (device, number, used) = place.device::<C>()?;
     if device.kind() != Kind::Bit {
-        return Err(Cause::WrongKind.at(at));
+        return Err(Cause::WrongKind.at(place.at));
     }
-    let points_at = at + used;
-    let (points, used) = fields::number::<C>(frame, points_at, 2)?;
+    let count = place.on(used);
+    let (points, used) = count.number::<C>(2)?;
     if !(1..=3584).contains(&points) {
-        return Err(Cause::BitCount.at(points_at));
+        return Err(Cause::BitCount.at(count.at));
     }
     let points = points as usize;
-    within(memory, device, number, points, at)?;
-    Ok((device, number, points, points_at + used))
+    within(memory, device, number, points, place.at)?;
+    Ok((device, number, points, count.on(used)))
 }
 
 // The row of a batch in words: the device, the first number, how many words, and where what follows them begins.
-fn word_row<C: WireCode, M: ReadableMemory>(
+fn word_row<'a, C: WireCode, M: ReadableMemory>(
     memory: &M,
-    frame: &[u8],
-    at: usize,
-) -> Result<(Device, u32, usize, usize), Fault>
-    requires { at ≤ length frame.now }
-    ensures row { IfOk result (IsWordRow C.WireCode.which (M.ReadableMemory.means memory.now) frame.now at) }
-    ensures few { IfOk result (λ r. (r.1 < 2 ^ 24) × (r.2 ≤ 960) × (r.3 ≤ length frame.now)) }
-    ensures declined { IfErr result (λ e. (judged C.WireCode.which (M.ReadableMemory.means memory.now) ReadWords frame.now at ≡ Err e) × (judged C.WireCode.which (M.ReadableMemory.means memory.now) WriteWords frame.now at ≡ Err e)) }
+    place: Place<'a>,
+) -> Result<(Device, u32, usize, Place<'a>), Fault>
+    ensures row { IfOk result (λ r. IsWordRow C.WireCode.which (M.ReadableMemory.means memory.now) place.entry.frame.now place.entry.at (r.0, r.1, r.2, r.3.at)) }
+    ensures few { IfOk result (λ r. (r.1 < 2 ^ 24) × (r.2 ≤ 960) × (r.3.frame.now ≡ place.entry.frame.now)) }
+    ensures declined { IfErr result (λ e. (judged C.WireCode.which (M.ReadableMemory.means memory.now) ReadWords place.entry.frame.now place.entry.at ≡ Err e) × (judged C.WireCode.which (M.ReadableMemory.means memory.now) WriteWords place.entry.frame.now place.entry.at ≡ Err e)) }
 {
-    let (device, number, used) = fields::device::<C>(frame, at)?;
-    let points_at = at + used;
-    let (points, used) = fields::number::<C>(frame, points_at, 2)?;
-    if !(1..=960).contains(&points) {
-        return Err(Cause::WordCount.at(points_at));
+    let (device, number, used) = place.device::<C>()?;
+    let count = place.on(used);
+    let (words, used) = count.number::<C>(2)?;
+    if !(1..=960).contains(&words) {
+        return Err(Cause::WordCount.at(count.at));
     }
-    let words = points as usize;
-    within(memory, device, number, points_of(device.kind(), words), at)?;
-    Ok((device, number, words, points_at + used))
+    let words = words as usize;
+    let points = points_of(device.kind(), words);
+    within(memory, device, number, points, place.at)?;
+    Ok((device, number, words, count.on(used)))
 }
 
 // 0401 with 0001: a batch of bits to read.
 pub(crate) fn read_bits<'a, C: WireCode, M: ReadableMemory>(
     memory: &M,
-    frame: &'a [u8],
-    at: usize,
+    place: Place<'a>,
 ) -> Result<Request<'a>, Fault>
-    requires { at ≤ length frame.now }
-    ensures value { said C.WireCode.which result ≡ judged C.WireCode.which (M.ReadableMemory.means memory.now) ReadBits frame.now at }
+    ensures value { said C.WireCode.which result ≡ judged C.WireCode.which (M.ReadableMemory.means memory.now) ReadBits place.entry.frame.now place.entry.at }
     ensures whole { IfOk (held result) (Whole C.WireCode.which) }
-    ensures stands { IfOk (held result) (Stands C.WireCode.which frame.now at) }
+    ensures stands { IfOk (held result) (Stands C.WireCode.which place.entry.frame.now place.entry.at) }
 {
-    let (device, number, points, end) = bit_row::<C, M>(memory, frame, at)?;
-    fields::ended(frame, end)?;
+    let (device, number, points, end) = bit_row::<C, M>(memory, place)?;
+    end.ended()?;
     Ok(Request::ReadBits {
         device,
         number,
@@ -88,16 +83,14 @@ pub(crate) fn read_bits<'a, C: WireCode, M: ReadableMemory>(
 // Each command keeps a function of its own, whose promise names it: what they share stands in the rows and the lists.
 pub(crate) fn read_words<'a, C: WireCode, M: ReadableMemory>(
     memory: &M,
-    frame: &'a [u8],
-    at: usize,
+    place: Place<'a>,
 ) -> Result<Request<'a>, Fault>
-    requires { at ≤ length frame.now }
-    ensures value { said C.WireCode.which result ≡ judged C.WireCode.which (M.ReadableMemory.means memory.now) ReadWords frame.now at }
+    ensures value { said C.WireCode.which result ≡ judged C.WireCode.which (M.ReadableMemory.means memory.now) ReadWords place.entry.frame.now place.entry.at }
     ensures whole { IfOk (held result) (Whole C.WireCode.which) }
-    ensures stands { IfOk (held result) (Stands C.WireCode.which frame.now at) }
+    ensures stands { IfOk (held result) (Stands C.WireCode.which place.entry.frame.now place.entry.at) }
 {
-    let (device, number, points, end) = word_row::<C, M>(memory, frame, at)?;
-    fields::ended(frame, end)?;
+    let (device, number, points, end) = word_row::<C, M>(memory, place)?;
+    end.ended()?;
     Ok(Request::ReadWords {
         device,
         number,
@@ -105,37 +98,35 @@ pub(crate) fn read_words<'a, C: WireCode, M: ReadableMemory>(
     })
 }
 
-// Tests the digits of so many values of two bytes from `at` on, and says where they end.
-fn check_words<C: WireCode>(frame: &[u8], at: usize, count: usize) -> Result<usize, Fault>
-    requires { at ≤ length frame.now }
-    ensures value { result ≡ list_end (value_at C.WireCode.which frame.now) count at }
-    ensures whole { OnOk result (length (list_in (number_in C.WireCode.which 2) count (drop at frame.now)) ≡ count) }
+// Tests the digits of so many values of two bytes, and says where they end.
+fn check_words<C: WireCode>(place: Place<'_>, count: usize) -> Result<usize, Fault>
+    ensures value { result ≡ list_end (value_at C.WireCode.which place.entry.frame.now) count place.entry.at }
+    ensures whole { OnOk result (length (list_in (number_in C.WireCode.which 2) count (drop place.entry.at place.entry.frame.now)) ≡ count) }
 {
-    fields::list_end(at, count, |at| fields::number::<C>(frame, at, 2))
+    fields::list_end(place.at, count, |at| place.to(at).number::<C>(2))
 }
 
 // 1401 with 0000: a batch of words to write.
 pub(crate) fn write_words<'a, C: WireCode, M: WritableMemory>(
     memory: &M,
-    frame: &'a [u8],
-    at: usize,
+    place: Place<'a>,
 ) -> Result<Request<'a>, Fault>
-    requires { at ≤ length frame.now }
-    ensures value { said C.WireCode.which result ≡ judged C.WireCode.which (M.ReadableMemory.means memory.now) WriteWords frame.now at }
+    ensures value { said C.WireCode.which result ≡ judged C.WireCode.which (M.ReadableMemory.means memory.now) WriteWords place.entry.frame.now place.entry.at }
     ensures whole { IfOk (held result) (Whole C.WireCode.which) }
-    ensures stands { IfOk (held result) (Stands C.WireCode.which frame.now at) }
+    ensures stands { IfOk (held result) (Stands C.WireCode.which place.entry.frame.now place.entry.at) }
 {
-    let (device, number, words, place) = word_row::<C, M>(memory, frame, at)?;
-    open(memory, device, number, points_of(device.kind(), words), at)?;
-    let used = fields::present(frame, place, words * C::field_size(2))?;
-    let _ = check_words::<C>(frame, place, words)?;
-    fields::ended(frame, place + used)?;
+    let (device, number, words, data) = word_row::<C, M>(memory, place)?;
+    let points = points_of(device.kind(), words);
+    open(memory, device, number, points, place.at)?;
+    let used = data.present(words * C::field_size(2))?;
+    let _ = check_words::<C>(data, words)?;
+    data.on(used).ended()?;
     Ok(Request::WriteWords {
         device,
         number,
         points: words,
-        data: fields::part_from(frame, place),
-        place,
+        data: data.rest(),
+        place: data.at,
     })
 }
 
@@ -170,28 +161,26 @@ fn are_bits<C: WireCode>(bytes: &[u8], count: usize) -> bool
 // 1401 with 0001: a batch of bits to write.
 pub(crate) fn write_bits<'a, C: WireCode, M: WritableMemory>(
     memory: &M,
-    frame: &'a [u8],
-    at: usize,
+    place: Place<'a>,
 ) -> Result<Request<'a>, Fault>
-    requires { at ≤ length frame.now }
-    ensures value { said C.WireCode.which result ≡ judged C.WireCode.which (M.ReadableMemory.means memory.now) WriteBits frame.now at }
+    ensures value { said C.WireCode.which result ≡ judged C.WireCode.which (M.ReadableMemory.means memory.now) WriteBits place.entry.frame.now place.entry.at }
     ensures whole { IfOk (held result) (Whole C.WireCode.which) }
-    ensures stands { IfOk (held result) (Stands C.WireCode.which frame.now at) }
+    ensures stands { IfOk (held result) (Stands C.WireCode.which place.entry.frame.now place.entry.at) }
 {
-    let (device, number, points, place) = bit_row::<C, M>(memory, frame, at)?;
-    open(memory, device, number, points, at)?;
-    let used = fields::present(frame, place, C::bits_size(points))?;
-    let data = fields::part_from(frame, place);
-    let _ = check_bits::<C>(data, place, points)?;
-    if !C::is_filled(data, points) || !are_bits::<C>(data, points) {
-        return Err(Cause::BadValue.at(place));
+    let (device, number, points, data) = bit_row::<C, M>(memory, place)?;
+    open(memory, device, number, points, place.at)?;
+    let used = data.present(C::bits_size(points))?;
+    let bits = data.rest();
+    let _ = check_bits::<C>(bits, data.at, points)?;
+    if !C::is_filled(bits, points) || !are_bits::<C>(bits, points) {
+        return Err(Cause::BadValue.at(data.at));
     }
-    fields::ended(frame, place + used)?;
+    data.on(used).ended()?;
     Ok(Request::WriteBits {
         device,
         number,
         points,
-        data,
-        place,
+        data: bits,
+        place: data.at,
     })
 }

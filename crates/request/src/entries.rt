@@ -4,7 +4,7 @@ ghost use Rattle.wire.specs.Numbers.{number_in};
 ghost use Rattle.request.specs.Fields.{bit_in};
 ghost use Rattle.request.specs.Entries.{access_in, setting_in};
 
-use crate::fields;
+use crate::fields::Place;
 use device::Device;
 use wire::{FieldFault, WireCode};
 
@@ -33,7 +33,7 @@ pub fn setting_at<C: WireCode>(
     if at > list.len() {
         return Err(FieldFault::Missing);
     }
-    let field = fields::part_from(list, at);
+    let field = Place { frame: list, at }.rest();
     let (device, number, used) = wire::device_at::<C>(list, at)?;
     let (value, more) = wire::number_at::<C>(field, used, size)?;
     Ok((((device, number), value), used + more))

@@ -5,8 +5,9 @@ ghost use Rattle.request.specs.Requests.{Monitor as Monitoring};
 ghost use Rattle.request.specs.Readings.{held, said, Whole, Stands, request_in};
 ghost use Rattle.request.specs.Laws.{Alike, Passed, Bounded};
 
+use crate::fields::Place;
 use crate::types::Request;
-use crate::{batch, fields, random};
+use crate::{batch, random};
 use frame::{Cause, Fault, Header};
 use memory::{ReadableMemory, WritableMemory};
 use wire::WireCode;
@@ -14,14 +15,13 @@ use wire::WireCode;
 // 0802 with 0000: a monitor request. It has no data.
 fn read_monitor<'a, C: WireCode, M: ReadableMemory>(
     memory: &M,
-    frame: &'a [u8],
-    at: usize,
+    place: Place<'a>,
 ) -> Result<Request<'a>, Fault>
-    ensures value { said C.WireCode.which result ≡ judged C.WireCode.which (M.ReadableMemory.means memory.now) Monitoring frame.now at }
+    ensures value { said C.WireCode.which result ≡ judged C.WireCode.which (M.ReadableMemory.means memory.now) Monitoring place.entry.frame.now place.entry.at }
     ensures whole { IfOk (held result) (Whole C.WireCode.which) }
-    ensures stands { IfOk (held result) (Stands C.WireCode.which frame.now at) }
+    ensures stands { IfOk (held result) (Stands C.WireCode.which place.entry.frame.now place.entry.at) }
 {
-    fields::ended(frame, at)?;
+    place.ended()?;
     Ok(Request::Monitor)
 }
 
@@ -37,20 +37,23 @@ fn read_command<'a, C: WireCode, M: WritableMemory>(
     ensures whole { IfOk (held result) (Whole C.WireCode.which) }
     ensures stands { IfOk (held result) (Stands C.WireCode.which frame.now header.data_at) }
 {
-    let at = header.data_at;
+    let place = Place {
+        frame,
+        at: header.data_at,
+    };
     match (header.command, header.subcommand) {
-        (0x0401, 0x0001) => batch::read_bits::<C, M>(memory, frame, at),
-        (0x0401, 0x0000) => batch::read_words::<C, M>(memory, frame, at),
-        (0x0403, 0x0000) => random::read_random::<C, M>(memory, frame, at),
-        (0x0801, 0x0000) => random::register::<C, M>(memory, frame, at),
-        (0x0802, 0x0000) => read_monitor::<C, M>(memory, frame, at),
+        (0x0401, 0x0001) => batch::read_bits::<C, M>(memory, place),
+        (0x0401, 0x0000) => batch::read_words::<C, M>(memory, place),
+        (0x0403, 0x0000) => random::read_random::<C, M>(memory, place),
+        (0x0801, 0x0000) => random::register::<C, M>(memory, place),
+        (0x0802, 0x0000) => read_monitor::<C, M>(memory, place),
         (0x1401 | 0x1402, 0x0000 | 0x0001) if !write_flag => Err(Cause::WriteOff.at(
             header.command_at,
         )),
-        (0x1401, 0x0001) => batch::write_bits::<C, M>(memory, frame, at),
-        (0x1401, 0x0000) => batch::write_words::<C, M>(memory, frame, at),
-        (0x1402, 0x0001) => random::write_random_bits::<C, M>(memory, frame, at),
-        (0x1402, 0x0000) => random::write_random::<C, M>(memory, frame, at),
+        (0x1401, 0x0001) => batch::write_bits::<C, M>(memory, place),
+        (0x1401, 0x0000) => batch::write_words::<C, M>(memory, place),
+        (0x1402, 0x0001) => random::write_random_bits::<C, M>(memory, place),
+        (0x1402, 0x0000) => random::write_random::<C, M>(memory, place),
         _ => Err(Cause::UnknownCommand.at(header.command_at)),
     }
 }

@@ -7,13 +7,13 @@ pub returns-in_err-words : goal.returns-in_err-words
 returns-in_err-words g c =
     let code = g.C.WireCode.which in
     let m = g.M.ReadableMemory.means c.args.memory.now in
-    let h = as_held code (write_judged code m c.args.frame.now c.args.at) (write_whole code m c.args.frame.now c.args.at) (held c.from_residual.result) (search rules) in
+    let h = as_held code (write_judged code m c.args.place.frame.now c.args.place.at) (write_whole code m c.args.place.frame.now c.args.place.at) (held c.from_residual.result) (search rules) in
     record { value = h.0; whole = h.1; stands = search rules }
 
 pub returns : goal.returns
 returns g c =
     let code = g.C.WireCode.which in
     let m = g.M.ReadableMemory.means c.args.memory.now in
-    let r = Ok (held_random_write c.in_ok-words.words c.in_ok-words.doubles c.part_from.result.now c.in_ok-words.place) in
-    let h = as_held code (write_judged code m c.args.frame.now c.args.at) (write_whole code m c.args.frame.now c.args.at) r (search rules) in
+    let r = Ok (held_random_write c.in_ok-words.words c.in_ok-words.doubles c.rest.result.now c.in_ok-words.list.at) in
+    let h = as_held code (write_judged code m c.args.place.frame.now c.args.place.at) (write_whole code m c.args.place.frame.now c.args.place.at) r (search rules) in
     record { value = h.0; whole = h.1; stands = search rules }
