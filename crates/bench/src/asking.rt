@@ -40,6 +40,7 @@ impl<'a> Asking<'a> {
     fn read_ask(self) -> Option<Ask> {
         let frame = self.frame;
         let at = self.header.data_at;
+        // Numbers, since a command that is not known is told as it came.
         match (self.header.command, self.header.subcommand) {
             (0x0401, 0x0000) => Some(Ask::Read(Row::read(frame, at, Width::Word)?)),
             (0x0401, 0x0001) => Some(Ask::Read(Row::read(frame, at, Width::Bit)?)),

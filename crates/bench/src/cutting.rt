@@ -41,7 +41,7 @@ impl<'a> Words<'a> {
         }
     }
 
-    // The next word; an empty one where none is left.
+    // The next word; an empty one where none is left, which no reader of a word takes.
     pub fn next(&mut self) -> &'a [u8] {
         let (word, rest) = self.rest.split_at(length_until(self.rest, is_blank));
         self.rest = trimmed(rest);

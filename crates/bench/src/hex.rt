@@ -30,6 +30,9 @@ fn byte_of(high: u8, low: u8) -> Option<u8>
 pub fn read_bytes(heap: Global, text: &[u8]) -> Result<Vec<u8>, Expected>
     ensures { MatchResult result (λ v. bytes_in text.now ≡ Some v.items) (λ e. e ≡ Hex → bytes_in text.now ≡ None) }
 {
+    if text.len() % 2 == 1 {
+        return Err(Expected::Hex);
+    }
     let mut bytes = Vec::new(heap);
     let mut rest = text;
     while let [high, low, behind @ ..] = rest {

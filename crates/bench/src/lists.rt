@@ -1,6 +1,4 @@
 // The lists of accesses that a request carries, in plain words.
-ghost use Rattle.std.specs.Prelude.{◌^◌, ◌<◌};
-
 use crate::coded::Coded;
 use crate::reading::{Reading, plural, tell_comma, tell_more, tell_unread};
 use crate::width::Width;
@@ -33,7 +31,6 @@ struct Access {
     width: Width,
     // where the field behind its device field stands
     next: usize,
-    ghost small: { number < 2 ^ 24 },
 }
 
 impl List {

@@ -52,6 +52,7 @@ pub fn read_value(word: &[u8]) -> Result<u16, Expected> {
 
 // The size of a reply space.
 pub fn read_space(word: &[u8]) -> Result<SpaceSize, Expected> {
+    // A guard and no filter: the size's own fact is proved from it.
     match decimal(word) {
         Some(bytes) if bytes <= 65536 => Ok(SpaceSize {
             bytes: bytes as usize,

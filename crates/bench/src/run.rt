@@ -30,6 +30,7 @@ pub fn run_section<M: WritableMemory + Storage>(
 ) -> io::Result<()> {
     let mut bench = Bench::new(memory);
     let mut rest = lines;
+    // How many lines a turn takes is known only in it.
     loop {
         let (calls, others) = rest.split_at(count_until(rest, |line| !is_call(line)));
         bench.replay(rt, calls)?;
@@ -67,6 +68,7 @@ pub fn run_lines(rt: &HostRuntime, lines: &[Line]) -> io::Result<()> {
     let (section, mut rest) = lines.split_at(count_until(lines, makes_memory));
     let mut none = [0u16; 0];
     u16::run(rt, &mut none, [0; 12], section)?;
+    // Each memory takes the lines up to the next one.
     while let Some((making, behind)) = rest.split_first() {
         let (section, next) = behind.split_at(count_until(behind, makes_memory));
         run_memory(rt, making, section)?;

@@ -23,7 +23,7 @@ fn fault_of(reason: Reason) -> Option<Fault> {
 }
 
 // How a run ended, in a word.
-// The crate that has the enum prints nothing, and a type around it, made for its Display, would say no more than this function.
+// A function, since the enum is another crate's: a type round it with a Display would be eight lines more and say the same.
 fn reason_name(reason: Reason) -> &'static str {
     match reason {
         Reason::Finished => "finished",

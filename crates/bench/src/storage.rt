@@ -29,7 +29,7 @@ impl<'b, M: Storage> Storage for &'b mut M {
     }
 }
 
-// A unit of storage: a word of packed tables, or a byte of an image.
+// A unit of storage: a word of packed tables, or a byte of an image. The crate below has such a trait too, which is not public.
 pub trait Unit: Copy {
     fn zero() -> Self;
 

@@ -24,7 +24,7 @@ pub struct Exchange<'a> {
 }
 
 // The name of a frame's form, and below that of a code.
-// The crate that has the enum prints nothing, and a type around it, made for its Display, would say no more than this function.
+// A function, since the enum is another crate's: a type round it with a Display would be eight lines more and say the same.
 fn form_name(form: Form) -> &'static str {
     match form {
         Form::ThreeE => "3E",

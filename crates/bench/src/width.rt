@@ -1,4 +1,4 @@
-// How much an access reaches.
+// How much an access reaches. The server has such an enum of its own, which is not public.
 ghost use Rattle.std.specs.Prelude.{◌≤◌};
 
 use std::fmt;

@@ -74,7 +74,7 @@ impl fmt::Display for Named {
 }
 
 // The name of a kind.
-// The crate that has the enum prints nothing, and a type around it, made for its Display, would say no more than this function.
+// A function, since the enum is another crate's: a type round it with a Display would be eight lines more and say the same.
 fn kind_name(kind: Kind) -> &'static str {
     match kind {
         Kind::Bit => "bit",
@@ -173,7 +173,8 @@ impl fmt::Display for FaultShown {
     }
 }
 
-// The name of a flag's state. A function for the same reason.
+// The name of a flag's state.
+// A function and no Display: its contract gives the text, and a Display has no clause that could.
 pub fn flag_name(flag: bool) -> &'static str
     ensures { result.now ≡ flag_text flag }
 {
@@ -234,7 +235,7 @@ pub fn field_words(cause: Cause) -> &'static str {
 }
 
 // Why a point was not set.
-// The crate that has the enum prints nothing, and a type around it, made for its Display, would say no more than this function.
+// A function, since the enum is another crate's: a type round it with a Display would be eight lines more and say the same.
 pub fn refusal_words(refusal: Refusal) -> &'static str {
     match refusal {
         Refusal::NoRoom => "the memory has no room",

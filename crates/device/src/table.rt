@@ -162,7 +162,7 @@ pub fn by_code(code: u8) -> Option<Device>
 }
 
 // The device with this symbol of two characters; none exactly when no device has it.
-// It differs from the search by code in the test alone, but the promise of each names its own column: one function would promise less.
+// It differs from the search by code in the test alone; one search with the test as a parameter would be as long as the chain.
 pub fn by_symbol(first: u8, second: u8) -> Option<Device>
     ensures value { result ≡ device_by_symbol first second }
     ensures found { MatchOption result ((d : Device) → symbol_of d ≢ first ∷ second ∷ []) (λ d. symbol_of d ≡ first ∷ second ∷ []) }

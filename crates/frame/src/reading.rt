@@ -21,6 +21,7 @@ fn field_fault(present: usize, at: usize, fault: FieldFault) -> Fault
 }
 
 // The number of `size` bytes at `at`, and the wire bytes it used.
+// Like the reader of a field of the data, in the crate above, whose faults have causes of their own.
 fn number<C: WireCode>(frame: &[u8], at: usize, size: usize) -> Result<(u32, usize), Fault>
     requires { (size ≤ 4) × (at ≤ length frame.now) }
     ensures value { result ≡ number_at C.WireCode.which frame.now at size }
@@ -50,6 +51,7 @@ fn read_form<C: WireCode>(frame: &[u8]) -> Result<Form, Fault>
 }
 
 // How many bytes the fields up to the length have.
+// A fact about a form's layout, and no number of the form.
 fn lead_bytes(form: Form) -> usize
     ensures value { result ≡ lead_bytes form }
     ensures few { result ≤ 13 }
@@ -195,6 +197,7 @@ pub fn read_frame<C: WireCode>(frame: &[u8], space: usize) -> Result<Header, Fau
 }
 
 // Tests the frame at the front of `frame` in a code, for a reply space of `space` bytes, and reads its header.
+// A code is a type below, so a code that is a value is picked by a match here.
 pub fn read_header(code: Code, frame: &[u8], space: usize) -> Result<Header, Fault>
     ensures value { result ≡ tested code space frame.now }
     ensures within { IfOk result (λ h. (h.size ≤ length frame.now) × (h.data_at ≤ h.size) × (4096 ≤ space)) }

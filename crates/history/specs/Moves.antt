@@ -23,7 +23,8 @@ told (Window f) = window f
 abbrev pub tellings : List Outcome → List Shown
 tellings os = map told os
 
--- a call that leaves it as it is whether a window is open, by the flag before the window if one is: an opening within one and an ending outside are declined
+-- a call that leaves it as it is whether a window is open, by the flag before the window if one is: an opening within one and an ending outside are
+-- declined
 abbrev pub StaysIn : Option Bool → Move → Type 0
 StaysIn b (frame code bytes space) = Unit {0}
 StaysIn b (setting d n v) = Unit {0}

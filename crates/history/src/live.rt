@@ -36,7 +36,8 @@ fn answer_frame<M: WritableMemory>(
     Ok(Outcome::Taken { answer, space })
 }
 
-// Carries out a call that opens and ends no window: a frame, a value given by the bench, or what is declined, an opening within a window and an ending outside one.
+// Carries out a call that opens and ends no window: a frame, a value given by the bench, or what is declined, which is an opening within a window and
+// an ending outside one.
 // Where memory does not suffice for it, nothing is carried out.
 pub(crate) fn carry_out<M: WritableMemory>(
     heap: Global,

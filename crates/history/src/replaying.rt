@@ -35,7 +35,7 @@ fn run_window<M: WritableMemory>(
     ensures want { is_ok result ≡ false → vec_len outcomes.new + length (iter_rest calls.new) < vec_len outcomes.old + length (iter_rest calls.old) }
 {
     let window = Window::open(settings);
-    // a `while let`, since after a `for` over `calls` or `calls.by_ref()` it is not proved which calls are left (`returns-clause-left`)
+    // A `while let`: after a `for` over the iterator it is not proved which calls are left.
     while let Some(call) = calls.next() {
         if let Call::End = call {
             outcomes.push_reserved(carried_out(window.was()));
@@ -70,6 +70,7 @@ fn run_calls<M: WritableMemory>(
     ensures want { is_ok result ≡ false → vec_len outcomes.new < length calls.now }
 {
     let mut calls = calls.iter();
+    // A `while let`, since a window takes the iterator on. It differs from the loop above in what an opening and an ending mean.
     while let Some(call) = calls.next() {
         if let Call::Open = call {
             outcomes.push_reserved(carried_out(true));

@@ -117,7 +117,7 @@ fn judge_twice(
     registration: &mut Registration,
 ) -> anyhow::Result<Verdict> {
     match judge_filled(heap, row, 0x0000, registration)? {
-        Verdict::Differs { expected, got } => Ok(Verdict::Differs { expected, got }),
+        differs @ Verdict::Differs { .. } => Ok(differs),
         _ => judge_filled(heap, row, 0xFFFF, registration),
     }
 }

@@ -17,6 +17,7 @@ fn device_of(name: &str) -> Option<(Device, &str)> {
     let [first, second, ..] = name.as_bytes() else {
         return None;
     };
+    // A symbol has two letters or one, the longer first.
     match by_symbol(*first, *second) {
         Some(device) => Some((device, name.get(2..)?)),
         None => Some((by_symbol(*first, b'*')?, name.get(1..)?)),

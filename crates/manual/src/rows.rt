@@ -21,6 +21,7 @@ pub struct Row<'a> {
     pub status: &'a str,
 }
 
+// The code of a name, and below the name of a code; the type is another crate's, so neither is a trait's method of it.
 fn code_of(name: &str) -> Option<Code> {
     match name {
         "ascii" => Some(Code::Ascii),

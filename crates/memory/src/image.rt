@@ -14,9 +14,8 @@ fn byte_part(kind: Kind, bytes: &[u8], at: usize) -> u16
     ensures { result ≡ byte_part kind bytes.now at }
 {
     match kind {
-        Kind::Bit if bytes[at] == 0 => 0,
-        Kind::Bit => 1,
-        Kind::Word => bytes[at] as u16 + 256 * bytes[at + 1] as u16,
+        Kind::Bit => u16::from(bytes[at] != 0),
+        Kind::Word => u16::from_le_bytes([bytes[at], bytes[at + 1]]),
     }
 }
 
@@ -51,10 +50,7 @@ impl Unit for u8 {
     fn put(units: &mut [u8], at: usize, kind: Kind, _number: u32, value: u16) {
         match kind {
             Kind::Bit => units[at] = value as u8,
-            Kind::Word => {
-                units[at] = (value % 256) as u8;
-                units[at + 1] = (value / 256) as u8;
-            }
+            Kind::Word => units[at..at + 2].copy_from_slice(&value.to_le_bytes()),
         }
     }
 

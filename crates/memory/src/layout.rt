@@ -29,17 +29,14 @@ fn units_for(form: Form, kind: Kind, points: u32) -> usize
     }
 }
 
-// The first unit of a point, counted from its device's first.
-// The same table as above but for bits in words, which are counted up there and down here.
+// The first unit of a point, counted from its device's first. As many units lie before it as the points before it take, but for bits that share a word.
 fn unit_of(form: Form, kind: Kind, number: u32) -> usize
     ensures value { result ≡ unit_of form kind number }
     ensures bound { result ≤ 2 ^ 33 }
 {
     match (form, kind) {
         (Form::Packed, Kind::Bit) => number as usize / 16,
-        (Form::Packed, Kind::Word) => number as usize,
-        (Form::Image, Kind::Bit) => number as usize,
-        (Form::Image, Kind::Word) => 2 * number as usize,
+        _ => units_for(form, kind, number),
     }
 }
 

@@ -25,6 +25,7 @@ fn set<U: Unit>(
 }
 
 // Gives one point of packed tables over the words a value.
+// This and the next are public names of the function above, and their clauses speak of the lent slice itself.
 pub fn set_packed(
     words: &mut [u16],
     extents: [u32; 12],

@@ -24,7 +24,7 @@ impl Range {
     }
 }
 
-// What fills a place that holds no lock yet.
+// A vector of fixed room fills the places behind its end with this value; no call reads them.
 impl Default for Range {
     ghost is_default = { λ r. r ≡ no_range };
 

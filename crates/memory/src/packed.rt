@@ -49,7 +49,7 @@ fn part_of(kind: Kind, word: u16, number: u32) -> u16
 }
 
 // How many words tables of these extents take; refused where an extent is too large.
-// This and the next function, and those of an image, are names of one function each, for callers who should not have to know the form.
+// This and the next function, and those of an image, are public names of one function each: with the form as a parameter a caller would write as much.
 pub fn words_needed(extents: &[u32; 12]) -> Result<usize, Refusal>
     ensures { result ≡ needed Packed extents.now }
 {

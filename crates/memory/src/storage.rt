@@ -39,7 +39,7 @@ pub trait Unit: Copy {
 #[derive(Drop)]
 pub struct Storage<'a, U: Unit> {
     units: &'a mut [U],
-    // by the devices' places
+    // One number for each device, in the order of the table: an array, since every device has one and there are always twelve.
     extents: [u32; 12],
     ghost small: { Small extents },
     ghost fits: { room U.FORM extents ≤ length (U.numbers units.now) },

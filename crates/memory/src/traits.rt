@@ -6,8 +6,8 @@ use crate::refusal::Refusal;
 use device::Device;
 
 // A memory that can be read. A question changes nothing, and put twice it answers alike.
-// A point is named by its device and its number apart, here and in the crates above: what a memory means is a function of both, which a clause would take
-// a struct apart for again, and walks over points go on by the number alone.
+// A point is named by its device and its number apart, here and in the crates above: what a memory means is a function of both, for which a clause
+// would take a struct apart again, and walks over points go on by the number alone, so that each step would make a new struct.
 pub trait ReadableMemory {
     // an extent for each device, a value for each point, and for each point whether it is open to writing
     ghost means: { Self → Meaning };

@@ -1,4 +1,6 @@
 // Batches: so many points or words from one number on.
+// What holds of every request that was read stands in the clauses `whole` and `stands` of each reader: it speaks of the frame and the code too,
+// and an enum has no ghost field for it.
 ghost use Rattle.std.specs.Prelude.{◌≡◌, ◌+◌, ◌*◌, ◌^◌, ◌<◌, ◌≤◌, length, drop, IfOk, IfErr, OnOk, Err};
 ghost use Rattle.wire.specs.Numbers.{number_in};
 ghost use Rattle.wire.specs.Points.{bits_size, half_in};
@@ -41,6 +43,8 @@ fn bit_row<'a, C: WireCode, M: ReadableMemory>(
 }
 
 // The row of a batch in words: the device, the first number, how many words, and where what follows them begins.
+// Unlike a row of bits it may be of any device, and has a limit and a cause of its own.
+// A tuple, as all readers answer: what was read, and where the walk goes on.
 fn word_row<'a, C: WireCode, M: ReadableMemory>(
     memory: &M,
     place: Place<'a>,

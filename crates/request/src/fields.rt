@@ -120,6 +120,7 @@ pub(crate) fn list_end<T: Copy, F: Fn(usize) -> Result<(T, usize), Fault>>(
     ensures within { (n : ℕ) → ReadsWithin (F.pre read) (F.post read) n → at ≤ n → IfOk result (λ end. end ≤ n) }
 {
     let mut place = at;
+    // No fold: each turn begins where the one before ended, and the first fault ends them all.
     for _ in 0..count {
         let (_, used) = read(place)?;
         place += used;

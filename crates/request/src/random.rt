@@ -19,6 +19,8 @@ use memory::{ReadableMemory, WritableMemory};
 use wire::WireCode;
 
 // One access of `width` words, tested, and the wire bytes it used.
+// The width is a count, by which points and bytes are counted: an enum would be turned back into it at once.
+// An access, a setting and a setting in bits each test one thing more, between two that they share.
 fn access<C: WireCode, M: ReadableMemory>(
     memory: &M,
     place: Place<'_>,
@@ -133,6 +135,7 @@ fn random_list<'a, C: WireCode, M: ReadableMemory>(
 }
 
 // Tests the lists of a random write: the counts, and where the lists begin.
+// It names another limit and other readers than the one above, and both are no more than that.
 fn write_list<'a, C: WireCode, M: WritableMemory>(
     memory: &M,
     place: Place<'a>,

@@ -41,6 +41,7 @@ fn read_command<'a, C: WireCode, M: WritableMemory>(
         frame,
         at: header.data_at,
     };
+    // Command and subcommand stay numbers: an error reply repeats them as they came.
     match (header.command, header.subcommand) {
         (0x0401, 0x0001) => batch::read_bits::<C, M>(memory, place),
         (0x0401, 0x0000) => batch::read_words::<C, M>(memory, place),

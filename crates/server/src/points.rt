@@ -12,7 +12,10 @@ use memory::ReadableMemory;
 pub(crate) fn value_at<M: ReadableMemory>(memory: &M, device: Device, number: usize) -> u16
     ensures { result ≡ (M.ReadableMemory.means memory.now).value device number }
 {
-    u32::try_from(number).map_or(0, |number| memory.read(device, number).unwrap_or(0))
+    u32::try_from(number)
+        .ok()
+        .and_then(|number| memory.read(device, number))
+        .unwrap_or(0)
 }
 
 // The number with one more bit below it.
@@ -29,7 +32,7 @@ fn sixteen<M: ReadableMemory>(memory: &M, device: Device, number: usize) -> u16
     ensures { result ≡ packed (M.ReadableMemory.means memory.now).value device number 16 }
 {
     let mut word = 0;
-    // The index is how far a point lies behind the first; a fold over the points would lack that the word still has room for a bit.
+    // By index, since points are asked for by their numbers; a fold would not know that the word still has room for a bit.
     for i in (0..16usize).rev() {
         word = with_bit(word, value_at(memory, device, number + i));
     }
@@ -68,7 +71,7 @@ fn double_at<M: ReadableMemory>(memory: &M, device: Device, number: usize) -> u3
     low + 65536 * high
 }
 
-// How much an access of a list covers: as many bytes as its value has.
+// How much an access or a setting of a list covers; its number is how many bytes its value has.
 #[derive(Clone, Copy, PartialEq, Eq, Debug)]
 pub enum Width {
     Point = 1,

@@ -50,7 +50,8 @@ impl Reply<'_> {
         self.answer(length, Some(fault))
     }
 
-    // The reply to a batch read in words. It and the next are apart, since a function that takes the size and what writes the data would be no shorter.
+    // The reply to a batch read in words.
+    // It and the next are apart, since a function that takes the size and what writes the data would be no shorter.
     pub(crate) fn show_words<C: WireCode, M: ReadableMemory>(
         &mut self,
         memory: &M,

@@ -19,7 +19,8 @@ use memory::{ReadableMemory, WritableMemory};
 use request::{Request, read_request};
 use wire::{Ascii, Binary, Code, WireCode};
 
-// Carries out a request that passed its tests. Memory, settings and registration are apart here and below, since a window lends the settings while the others are written.
+// Carries out a request that passed its tests.
+// Memory, settings and registration are apart here and below, since a window lends the settings while the others are written.
 fn carry_out<C: WireCode, M: WritableMemory>(
     reply: &mut Reply<'_>,
     request: Request<'_>,
@@ -168,6 +169,7 @@ fn serve<C: WireCode, M: WritableMemory>(
 }
 
 // Takes the frame at the front of `frame`, in the code that the call names, and writes one reply at the front of `reply`.
+// A code is a type below, so a code that is a value is picked by a match here.
 pub fn take_frame<M: WritableMemory>(
     code: Code,
     frame: &[u8],

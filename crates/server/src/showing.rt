@@ -29,7 +29,7 @@ pub(crate) fn write_words<C: WireCode, M: ReadableMemory>(
 {
     let step = word_points(device);
     let mut place = at;
-    // The index is how far the word lies behind the first, as `count` points are not there to go over.
+    // By index, since points are asked for one at a time by their numbers: there is no list to go over.
     for i in 0..count {
         let word = word_at(memory, device, number as usize + i * step);
         place += C::write_number(out, place, 2, u32::from(word));
@@ -50,7 +50,7 @@ pub(crate) fn write_bits<C: WireCode, M: ReadableMemory>(
 {
     let first = number as usize;
     let mut place = at;
-    // The index is how many pairs lie before.
+    // By index, since points are asked for one at a time by their numbers: there is no list to go over.
     for i in 0..count / 2 {
         let one = value_at(memory, device, first + 2 * i);
         let other = value_at(memory, device, first + 2 * i + 1);

@@ -1,5 +1,6 @@
 // Writes words and points to any writable memory.
-// Every function here and in `serve` that is handed the memory promises `keeps`, as a write of the memory does: no type could hold it, since it joins the memory before and after the call.
+// Every function here and in `serve` that is handed the memory promises `keeps`, as a write of the memory does: it joins the memory before and after
+// the call, so no type could hold it.
 ghost use Rattle.std.specs.Prelude.{◌≡◌, ◌+◌, ◌*◌, ◌/◌, ◌%◌, ◌^◌, ◌<◌, ◌≤◌, ◌++◌, drop};
 ghost use Rattle.wire.specs.Numbers.{per_byte, number_in};
 ghost use Rattle.request.specs.Entries.{setting_in};
@@ -28,6 +29,7 @@ fn put_sixteen<M: WritableMemory>(memory: &mut M, device: Device, number: u32, v
     ensures means { M.ReadableMemory.means memory.new ≡ tried (M.ReadableMemory.means memory.old) (spread device number 16 value) }
     ensures keeps { M.ReadableMemory.keeps memory.old memory.new }
 {
+    // By index, since points are given by their numbers, and bits by their places: there is no list of either.
     for i in 0..16u32 {
         put_point(memory, device, number + i, (value >> i) % 2);
     }
@@ -72,13 +74,15 @@ pub(crate) fn put_bits<C: WireCode, M: WritableMemory>(
     ensures means { M.ReadableMemory.means memory.new ≡ tried (M.ReadableMemory.means memory.old) (in_row device number (bits_in C.WireCode.which bytes.now 0 count)) }
     ensures keeps { M.ReadableMemory.keeps memory.old memory.new }
 {
-    // The index is how far the point lies behind the first, and the place of its bit.
+    // By index, since a point is given by its number and a bit by its place: there is no list of either.
     for i in 0..count {
         put_point(memory, device, number + i as u32, bit_at::<C>(bytes, i));
     }
 }
 
-// Gives words one behind the other the values of word data. This walk, that of `put_settings` and that of a registration's `fill` read other entries and do other things with them: a walk that takes both as closures is longer than its loop.
+// Gives words one behind the other the values of word data.
+// This walk, that of `put_settings` and that of a registration's `fill` read other entries and do other things with them: one that took both as closures
+// would be longer than its loop. A field stands where the one before ends, and one that cannot be read ends the walk.
 pub(crate) fn put_words<C: WireCode, M: WritableMemory>(
     memory: &mut M,
     device: Device,

@@ -66,7 +66,8 @@ fn run_records<M: WritableMemory>(
     ensures ends { (b : Option Bool) → ended_by result.reason result.count result.next reply.new (state (M.ReadableMemory.means memory.new) true b (registered registration.new)) ≡ (records code sheet.now cancel 1 0 reply.old (state (M.ReadableMemory.means memory.old) true b (registered registration.old))).end }
     ensures keeps { M.ReadableMemory.keeps memory.old memory.new }
 {
-    // the place goes on by the length that each record says, and a record counts only once its reply tells no error
+    // A loop that breaks with its reason: each turn writes memory, reply and registration, the place goes on by the length that a record says,
+    // and a record counts only once its reply tells no error.
     let mut at = 1;
     let mut count = 0;
     let reason = loop {

@@ -26,6 +26,8 @@ pub enum FieldFault {
 }
 
 // Every reader reads what its bytes begin with, and says how many of them the field took.
+// A writer takes all of `out` and a place in it, since a reply is written in parts and the rest of it is promised to stay.
+// Numbers and devices are read and written alike, as their promises are; one function for both would take two readers and two sizes.
 pub trait WireCode {
     // Wire bytes for each byte of a number.
     const WIRE_BYTES: usize;

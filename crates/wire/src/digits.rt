@@ -6,6 +6,7 @@ use crate::code::FieldFault;
 use device::Notation;
 
 // The digit that a byte stands for; any other byte is a fault at its place.
+// Matched by characters and ranges, as the rules list them; `to_digit` would take small letters too.
 pub fn digit(notation: Notation, byte: u8, place: u8) -> Result<u8, FieldFault>
     ensures { result ≡ digit_of notation place byte }
 {
@@ -24,6 +25,7 @@ pub fn read_digit(byte: u8) -> Option<u8>
 }
 
 // The character of a digit.
+// Not by `from_digit`, which gives small letters.
 pub fn hex_char(digit: u8) -> u8
     requires { digit < 16 }
     ensures { result ≡ hex_char digit }

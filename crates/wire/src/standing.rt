@@ -20,6 +20,7 @@ pub fn number_at<C: WireCode>(
 }
 
 // The device field that stands at `at`: the device, the number, and the wire bytes it used.
+// Like the number above but for the reader, which is one call: a parameter for it would be longer.
 pub fn device_at<C: WireCode>(bytes: &[u8], at: usize) -> Result<(Device, u32, usize), FieldFault>
     requires { at ≤ length bytes.now }
     ensures value { result ≡ device_in C.WireCode.which (drop at bytes.now) }

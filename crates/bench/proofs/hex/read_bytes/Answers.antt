@@ -1,7 +1,10 @@
 use Rattle.std.proofs.Common.{◌≡◌, ◌-◌, length, get_or, take, drop, Some, vec_items, sym, ap, ◌∙◌, rules}
 use Rattle.bench.specs.Hex.{byte_value, before, bytes_in}
-use Rattle.bench.proofs.Digits.{ahead, turn_read, shift}
+use Rattle.bench.proofs.Digits.{ahead, odd, turn_read, shift}
 use Rattle.bench.proofs.hex.read_bytes.Goals as goal
+
+pub returns-then-text-eq1 : goal.returns-then-text-eq1
+returns-then-text-eq1 c = λ _. odd c.args.text.now c.if-text-eq1.true
 
 pub loop-rest-preserved : goal.loop-rest-preserved
 loop-rest-preserved c =
