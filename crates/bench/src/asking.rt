@@ -14,7 +14,7 @@ pub enum Ask {
     WriteList(List),
     Register(List),
     Monitor,
-    // a command that is not known, or data that cannot be read
+    // a command that is not known, or data that cannot be read: a case and no Option, since that is told too
     Other,
 }
 

@@ -5,27 +5,26 @@ use crate::expected::Expected;
 
 // What stands before the first byte of this value, and what stands behind it; none where there is no such byte.
 pub fn split_once(text: &[u8], byte: u8) -> Option<(&[u8], &[u8])> {
-    let (front, rest) = text.split_at(length_until(text, |other| other == byte));
+    let (front, rest) = text.split_at(length_until(text, |other| *other == byte));
     Some((front, rest.strip_prefix(&[byte])?))
 }
 
-// How many bytes stand before the first one that a test takes: all of them, where it takes none.
-fn length_until<F: Fn(u8) -> bool>(text: &[u8], test: F) -> usize
+// How many items stand before the first one that a test takes: all of them, where it takes none.
+pub fn length_until<T, F: Fn(&T) -> bool>(items: &[T], test: F) -> usize
     requires { F.IsAlwaysCallable test }
-    ensures { result ≤ length text.now }
+    ensures { result ≤ length items.now }
 {
-    text.iter()
-        .position(|byte| test(*byte))
-        .unwrap_or(text.len())
+    items.iter().position(test).unwrap_or(items.len())
 }
 
+// Blanks, tabs and carriage returns alone divide words; `trim_ascii_start` would take form feeds too.
 fn is_blank(byte: u8) -> bool {
     matches!(byte, b' ' | b'\t' | b'\r')
 }
 
 // A text without the blanks at its front.
 pub fn trimmed(text: &[u8]) -> &[u8] {
-    &text[length_until(text, |byte| !is_blank(byte))..]
+    &text[length_until(text, |byte| !is_blank(*byte))..]
 }
 
 // The words of a line that are not read yet.
@@ -43,7 +42,9 @@ impl<'a> Words<'a> {
 
     // The next word; an empty one where none is left, which no reader of a word takes.
     pub fn next(&mut self) -> &'a [u8] {
-        let (word, rest) = self.rest.split_at(length_until(self.rest, is_blank));
+        let (word, rest) = self
+            .rest
+            .split_at(length_until(self.rest, |byte| is_blank(*byte)));
         self.rest = trimmed(rest);
         word
     }

@@ -35,6 +35,7 @@ pub fn read_bytes(heap: Global, text: &[u8]) -> Result<Vec<u8>, Expected>
     }
     let mut bytes = Vec::new(heap);
     let mut rest = text;
+    // By pattern: what is left of the text is what the proof speaks of.
     while let [high, low, behind @ ..] = rest {
         let byte = byte_of(*high, *low).ok_or(Expected::Hex)?;
         bytes.push(byte)?;
@@ -94,6 +95,7 @@ pub fn bytes_text(heap: Global, bytes: &[u8]) -> Result<String, AllocError>
 fn push_word(text: &mut String, word: u16) -> Result<(), AllocError>
     ensures { OnOk result (string_bytes text.new ≡ string_bytes text.old ++ bytes_text (halves (word ∷ []))) }
 {
+    // By division, as the definition has it.
     push_byte(text, (word / 256) as u8)?;
     push_byte(text, (word % 256) as u8)?;
     Ok(())

@@ -1,4 +1,4 @@
-// Decimal numbers of a script.
+// Decimal numbers of a script. Read by hand: `from_str_radix` takes a plus sign too, and a str, while a script is bytes.
 ghost use Rattle.std.specs.Prelude.{◌≡◌};
 ghost use Rattle.bench.specs.Decimals.{with_digit, with_digits, decimal_in};
 

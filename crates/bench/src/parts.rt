@@ -63,7 +63,7 @@ fn read_digits<T: Drop, F: FnOnce(Global, &[u8]) -> Result<Vec<T>, Expected>>(
     }
 }
 
-// Bytes in hexadecimal digits, with - for none.
+// Bytes in hexadecimal digits, with - for none; below, words.
 pub fn read_hex(heap: Global, word: &[u8]) -> Result<Vec<u8>, Expected> {
     read_digits(heap, word, Expected::Hex, read_bytes)
 }

@@ -5,7 +5,7 @@ use std::alloc::{AllocError, Global};
 use std::iter;
 use wire::Code;
 
-// The frame of the record that `rest` begins with, and what stands behind it.
+// The frame of the record that `rest` begins with, and what stands behind it. The reader of the crate below, which tests it too, is not public.
 fn cut_record(rest: &[u8]) -> Option<(&[u8], &[u8])> {
     let [high, low, behind @ ..] = rest else {
         return None;

@@ -1,8 +1,7 @@
 // Carries out the lines of a script, one memory after the other.
-ghost use Rattle.std.specs.Prelude.{◌≤◌, length};
-
 use crate::batch::is_call;
 use crate::bench::Bench;
+use crate::cutting::length_until;
 use crate::line::Line;
 use crate::making::{tell_making, units_of};
 use crate::storage::{Storage, Unit};
@@ -12,14 +11,6 @@ use std::io;
 // Whether a line makes a memory.
 fn makes_memory(line: &Line) -> bool {
     matches!(line, Line::Packed { .. } | Line::Image { .. })
-}
-
-// How many lines stand before the first one that a test takes: all of them, where it takes none.
-fn count_until<F: Fn(&Line) -> bool>(lines: &[Line], test: F) -> usize
-    requires { F.IsAlwaysCallable test }
-    ensures { result ≤ length lines.now }
-{
-    lines.iter().position(test).unwrap_or(lines.len())
 }
 
 // Carries out lines of which none makes a memory. Those that make calls wait until another kind of line comes.
@@ -32,7 +23,7 @@ pub fn run_section<M: WritableMemory + Storage>(
     let mut rest = lines;
     // How many lines a turn takes is known only in it.
     loop {
-        let (calls, others) = rest.split_at(count_until(rest, |line| !is_call(line)));
+        let (calls, others) = rest.split_at(length_until(rest, |line| !is_call(line)));
         bench.replay(rt, calls)?;
         let Some((line, behind)) = others.split_first() else {
             return Ok(());
@@ -65,12 +56,12 @@ fn run_memory(rt: &HostRuntime, making: &Line, lines: &[Line]) -> io::Result<()>
 
 // Carries out all lines. Those before the first memory find one that has no points.
 pub fn run_lines(rt: &HostRuntime, lines: &[Line]) -> io::Result<()> {
-    let (section, mut rest) = lines.split_at(count_until(lines, makes_memory));
+    let (section, mut rest) = lines.split_at(length_until(lines, makes_memory));
     let mut none = [0u16; 0];
     u16::run(rt, &mut none, [0; 12], section)?;
-    // Each memory takes the lines up to the next one.
+    // Not by `split`: each turn needs the line that makes its memory, which a split at such lines drops.
     while let Some((making, behind)) = rest.split_first() {
-        let (section, next) = behind.split_at(count_until(behind, makes_memory));
+        let (section, next) = behind.split_at(length_until(behind, makes_memory));
         run_memory(rt, making, section)?;
         rest = next;
     }

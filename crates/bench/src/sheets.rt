@@ -23,7 +23,7 @@ fn fault_of(reason: Reason) -> Option<Fault> {
 }
 
 // How a run ended, in a word.
-// A function, since the enum is another crate's: a type round it with a Display would be eight lines more and say the same.
+// A function: the enum is another crate's, the text is printed in one place, and a type round it with a Display would be eight lines more.
 fn reason_name(reason: Reason) -> &'static str {
     match reason {
         Reason::Finished => "finished",

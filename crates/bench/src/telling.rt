@@ -24,7 +24,7 @@ pub struct Exchange<'a> {
 }
 
 // The name of a frame's form, and below that of a code.
-// A function, since the enum is another crate's: a type round it with a Display would be eight lines more and say the same.
+// A function: the enum is another crate's, the text is printed in one place, and a type round it with a Display would be eight lines more.
 fn form_name(form: Form) -> &'static str {
     match form {
         Form::ThreeE => "3E",

@@ -74,7 +74,7 @@ impl fmt::Display for Named {
 }
 
 // The name of a kind.
-// A function, since the enum is another crate's: a type round it with a Display would be eight lines more and say the same.
+// A function: the enum is another crate's, the text is printed in one place, and a type round it with a Display would be eight lines more.
 fn kind_name(kind: Kind) -> &'static str {
     match kind {
         Kind::Bit => "bit",
@@ -235,7 +235,7 @@ pub fn field_words(cause: Cause) -> &'static str {
 }
 
 // Why a point was not set.
-// A function, since the enum is another crate's: a type round it with a Display would be eight lines more and say the same.
+// A function: the enum is another crate's, the text is printed in one place, and a type round it with a Display would be eight lines more.
 pub fn refusal_words(refusal: Refusal) -> &'static str {
     match refusal {
         Refusal::NoRoom => "the memory has no room",

@@ -31,7 +31,7 @@ fn serve(code: Code, frame: &[u8], reply: &mut [u8]) -> Answer {
 }
 
 fn fault(cause: Cause, place: usize) -> Option<Fault> {
-    Some(Fault { cause, place })
+    Some(cause.at(place))
 }
 
 // The fault that a frame meets, with reply space enough.

@@ -19,7 +19,7 @@ pub struct Route {
 #[derive(Clone, Copy, PartialEq, Eq, Debug)]
 pub(crate) struct Lead {
     pub(crate) form: Form,
-    // 0 in a 3E frame, which has none: no test and no reply asks whether there is one, but for the form
+    // 0 in a 3E frame, which has none: the form says so already, and the definitions take a serial in either form
     pub(crate) serial: u16,
     // the zero word of a 4E frame
     pub(crate) zero: u16,
@@ -34,7 +34,7 @@ pub(crate) struct Lead {
 #[derive(Clone, Copy, PartialEq, Eq, Debug)]
 pub struct Header {
     pub form: Form,
-    // 0 in a 3E frame, which has none: no test and no reply asks whether there is one, but for the form
+    // 0 in a 3E frame, which has none: the form says so already, and the definitions take a serial in either form
     pub serial: u16,
     pub route: Route,
     // read, and without effect

@@ -16,7 +16,7 @@ fn field_fault(present: usize, at: usize, fault: FieldFault) -> Fault
     match fault {
         FieldFault::Missing => Cause::Incomplete.at(present),
         FieldFault::Unknown => Cause::BadDigit.at(at),
-        FieldFault::Digit(offset) => Cause::BadDigit.at(at + offset as usize),
+        FieldFault::Digit(offset) => Cause::BadDigit.at(at + usize::from(offset)),
     }
 }
 

@@ -1,4 +1,5 @@
 // One call of a history, in a window or not.
+// Memory, settings and registration are apart here and in the loops over calls, as in the server: a window lends the settings while the others are written.
 ghost use Rattle.std.specs.Prelude.{◌≡◌, Bool, Option, MatchResult};
 ghost use Rattle.server.specs.Registered.{registered};
 ghost use Rattle.server.specs.Histories.{frame, state, CarriesOn};

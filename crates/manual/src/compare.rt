@@ -36,7 +36,7 @@ fn judge_points<M: ReadableMemory>(
     }
 }
 
-// The end code of an answer: 0 if the request was accepted.
+// The end code of an answer: 0 if the request was accepted, as a reply carries it.
 fn end_of(answer: Answer) -> u16 {
     answer.fault.map_or(0, |fault| fault.cause.number())
 }

@@ -5,8 +5,7 @@ use wire::{Code, read_digit};
 
 // A number of two bytes, in the order of the code.
 fn number(heap: Global, code: Code, value: u16) -> Result<String, AllocError> {
-    let high = value / 256;
-    let low = value % 256;
+    let [high, low] = value.to_be_bytes();
     match code {
         Code::Ascii => format!(in heap; "{high:02X}{low:02X}"),
         Code::Binary => format!(in heap; "{low:02X}{high:02X}"),

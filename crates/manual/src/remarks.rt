@@ -1,4 +1,4 @@
-// What is to be said beside the verdict on a row.
+// What is to be said beside the verdict on a row. The cell of the status is prose, and each remark looks for its own words in it.
 use crate::rows::Row;
 use std::fmt;
 

@@ -1,4 +1,5 @@
 // Where the points lie in a storage of units: 16-bit words for packed tables, bytes for an image.
+// Form and extents stay apart here: the definitions take both, and a storage keeps its extents alone, since its unit gives the form.
 ghost use Rattle.std.specs.Prelude.{◌≡◌, ◌+◌, ◌*◌, ◌^◌, ◌<◌, ◌≤◌, true, false, nat_le};
 ghost use Rattle.device.specs.Devices.{kind_of, device_at_place};
 ghost use Rattle.memory.specs.Meaning.{extent_limit};

@@ -58,7 +58,7 @@ impl<'a, U: Unit> Storage<'a, U> {
 }
 
 impl<'a> Storage<'a, u16> {
-    // The words that packed tables lie in.
+    // The words that packed tables lie in; the name of the units is another for an image.
     pub fn words(&self) -> &[u16]
         ensures { result.now ≡ self.now.units.now }
     {

@@ -1,4 +1,4 @@
-// What stands in the bytes that a request holds, entry by entry. Each reader has an answer for any bytes.
+// What stands in the bytes that a request holds, entry by entry. Each reader has an answer for any bytes, so it looks for its place itself.
 ghost use Rattle.std.specs.Prelude.{◌≡◌, ◌+◌, ◌^◌, ◌<◌, ◌≤◌, length, drop, IfOk};
 ghost use Rattle.wire.specs.Numbers.{number_in};
 ghost use Rattle.request.specs.Fields.{bit_in};

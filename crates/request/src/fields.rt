@@ -16,7 +16,7 @@ pub(crate) fn data_fault(at: usize, fault: FieldFault) -> Fault
     match fault {
         FieldFault::Missing => Cause::BadSize.at(at),
         FieldFault::Unknown => Cause::UnknownDevice.at(at),
-        FieldFault::Digit(offset) => Cause::DataDigit.at(at + offset as usize),
+        FieldFault::Digit(offset) => Cause::DataDigit.at(at + usize::from(offset)),
     }
 }
 
@@ -120,7 +120,7 @@ pub(crate) fn list_end<T: Copy, F: Fn(usize) -> Result<(T, usize), Fault>>(
     ensures within { (n : ℕ) → ReadsWithin (F.pre read) (F.post read) n → at ≤ n → IfOk result (λ end. end ≤ n) }
 {
     let mut place = at;
-    // No fold: each turn begins where the one before ended, and the first fault ends them all.
+    // A loop: its invariant carries that the next place fits, which the closure of a fold could not know.
     for _ in 0..count {
         let (_, used) = read(place)?;
         place += used;

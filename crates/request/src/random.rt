@@ -20,7 +20,7 @@ use wire::WireCode;
 
 // One access of `width` words, tested, and the wire bytes it used.
 // The width is a count, by which points and bytes are counted: an enum would be turned back into it at once.
-// An access, a setting and a setting in bits each test one thing more, between two that they share.
+// Each of the three begins with the device and its points; a setting goes on to openness and a value, one in bits tests the kind and the value too.
 fn access<C: WireCode, M: ReadableMemory>(
     memory: &M,
     place: Place<'_>,

@@ -1,4 +1,5 @@
 // A request that was read and passed every test. What it holds of the frame begins at `place`.
+// The cases spell their fields out: a struct for a batch or for lists would be taken apart again by each clause and each call.
 use device::Device;
 
 #[derive(Clone, Copy)]

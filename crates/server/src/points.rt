@@ -50,7 +50,7 @@ pub(crate) fn word_at<M: ReadableMemory>(memory: &M, device: Device, number: usi
     }
 }
 
-// How many points a word of the device has.
+// How many points a word of the device has: what the crate below says of any count of words, in a function that is not public.
 pub(crate) fn word_points(device: Device) -> usize
     ensures value { result ≡ points (kind_of device) 1 }
     ensures few { result ≤ 16 }

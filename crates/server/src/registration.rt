@@ -17,7 +17,7 @@ pub struct Registration {
     // how many accesses are registered; absent until the first accepted registration
     count: Option<usize>,
     words: usize,
-    // a plain array with the counts beside it: a registration is copied, a vector of fixed room is not, and the heap is not used here
+    // a plain array with the counts beside it: the type is Copy, which a vector of fixed room is not, and the heap is not used here
     entries: [Access; 192],
     ghost few: { counted count ≤ 192 },
     ghost part: { words ≤ counted count },

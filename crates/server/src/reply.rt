@@ -24,6 +24,7 @@ pub(crate) struct Reply<'a> {
     ghost room: { 4096 ≤ length space.now },
 }
 
+// The clauses `name` and `fits` of each method join the space before and after the call; the space is the caller's, so no field could hold them.
 impl Reply<'_> {
     // The answer to the frame, which was taken whole, with a reply of this length and any fault.
     fn answer(&self, length: usize, fault: Option<Fault>) -> Answer

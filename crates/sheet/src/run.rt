@@ -52,6 +52,7 @@ fn over_at(sheet: &[u8], at: usize, allowed: usize) -> Option<Reason>
 }
 
 // Carries out the records of a sheet while the write flag is on.
+// Code, sheet, cancel number and reply space go through three functions and are read in one: a struct would be made and read once.
 fn run_records<M: WritableMemory>(
     code: Code,
     sheet: &[u8],

@@ -10,7 +10,7 @@ use device::Notation;
 pub fn digit(notation: Notation, byte: u8, place: u8) -> Result<u8, FieldFault>
     ensures { result ≡ digit_of notation place byte }
 {
-    match (byte as char, notation) {
+    match (char::from(byte), notation) {
         ('0'..='9', _) => Ok(byte - b'0'),
         ('A'..='F', Notation::Hexadecimal) => Ok(byte - b'A' + 10),
         _ => Err(FieldFault::Digit(place)),
@@ -53,7 +53,7 @@ pub fn with_digit(base: u32, value: u32, digit: u8) -> u32
     requires { value * base + digit < 2 ^ 32 }
     ensures { result ≡ value * base + digit }
 {
-    value * base + digit as u32
+    value * base + u32::from(digit)
 }
 
 // The number's lowest digit.
