@@ -65,7 +65,6 @@ header_of code f c s n = record {
 }
 
 -- a frame that is written by the forms is taken up, and its header says what was written, whatever follows it
-abbrev pub TakenUp : Code → ℕ → List ℕ → Result Header Fault → Type 0
-TakenUp code space xs r =
-    (f : Front) (c s : ℕ) (ys rest : List ℕ) → FrontFits f → c < 65536 → s < 65536 → 6 * per_byte code + length ys ≤ 8192 → 4096 ≤ space
-    → xs ≡ request_bytes code f c s ys ++ rest → r ≡ Ok (header_of code f c s (length ys))
+pub record TakenUp (code : Code) (space : ℕ) (xs : List ℕ) (r : Result Header Fault) : Type 0 where
+  pub back : (f : Front) (c s : ℕ) (ys rest : List ℕ) → FrontFits f → c < 65536 → s < 65536 → 6 * per_byte code + length ys ≤ 8192 → 4096 ≤ space
+      → xs ≡ request_bytes code f c s ys ++ rest → r ≡ Ok (header_of code f c s (length ys))

@@ -198,6 +198,7 @@ pub fn read_frame<C: WireCode>(frame: &[u8], space: usize) -> Result<Header, Fau
 
 // Tests the frame at the front of `frame` in a code, for a reply space of `space` bytes, and reads its header.
 // A code is a type below, so a code that is a value is picked by a match here.
+#[tactic(auto, using(crate::proofs::Written::so_taken_up))]
 pub fn read_header(code: Code, frame: &[u8], space: usize) -> Result<Header, Fault>
     ensures value { result ≡ tested code space frame.now }
     ensures within { IfOk result (λ h. (h.size ≤ length frame.now) × (h.data_at ≤ h.size) × (4096 ≤ space)) }
