@@ -16,10 +16,7 @@ pub shift : (xs : List ℕ) (b : ℕ) (o : Option (List ℕ)) → ahead xs (befo
 shift xs b None = refl
 shift xs b (Some ys) = ap Some (sym (append_assoc xs (b ∷ []) ys))
 
--- a byte that cannot be read
-pub stuck : (xs : List ℕ) (o : Option (List ℕ)) → ahead xs (before None o) ≡ None
-stuck xs o = refl
-
+-- where the bytes behind cannot be read
 pub never : (b : Option ℕ) → before b None ≡ None
 never None = refl
 never (Some x) = refl

@@ -102,11 +102,7 @@ ran_flag s₀ ms os m flag flag' g e r = subst (λ f. Ran s₀ ms os (state m f 
 pub reached_flag : (s₀ : State) (ms : List Move) (os : List Shown) (m : Meaning) (flag flag' : Bool) (g : Option Listed) → flag ≡ flag' → Reached s₀ ms os (state m flag None g) → Reached s₀ ms os (state m flag' None g)
 reached_flag s₀ ms os m flag flag' g e r = subst (λ f. Reached s₀ ms os (state m f None g)) e r
 
--- the end of a list ends a window
-pub in_window : (s₀ : State) (ms : List Move) (os : List Shown) (m : Meaning) (was : Bool) (g : Option Listed) → Reached s₀ ms os (state m true (Some was) g) → Ran s₀ ms os (state m was None g)
-in_window s₀ ms os m was g r = record { showed = r.showed; left = ap (λ s. closed s) r.led }
-
--- where none is open it changes nothing
+-- the end of a list changes nothing where no window is open
 pub at_rest : (s₀ : State) (ms : List Move) (os : List Shown) (m : Meaning) (flag : Bool) (g : Option Listed) → Reached s₀ ms os (state m flag None g) → Ran s₀ ms os (state m flag None g)
 at_rest s₀ ms os m flag g r = record { showed = r.showed; left = ap (λ s. closed s) r.led }
 

@@ -23,10 +23,6 @@ small_each es t d =
     let here : is_small es (place_of d) ≡ true = (decides_small es 12).0 t (place_of d) (place_below d) in
     subst (λ (e : Device). extent_in es d ≤ extent_limit e) (at_place d) (leb-true _ _ here)
 
-none_small : Small (replicate 12 0)
-unfolding small_below
-none_small = small_each (replicate 12 0) refl
-
 pub none_room : (f : Form) → room f (replicate 12 0) ≡ 0
 unfolding start
 none_room Packed = refl

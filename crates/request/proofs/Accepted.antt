@@ -1,5 +1,5 @@
 -- What is known of a request that was accepted: its counts, its spans, and that each write of it is accepted by the memory.
-use Rattle.std.proofs.Common.{◌≡◌, ℕ, zero, suc, ◌+◌, ◌*◌, ◌<◌, ◌≤◌, true, ◌&&◌, leb, List, [], ◌∷◌, get_or, IfOk, Ok, Err, Result, sym, ap, ◌∙◌, add-zero, arith, lt-ltb, leb-true}
+use Rattle.std.proofs.Common.{◌≡◌, ℕ, zero, suc, ◌+◌, ◌*◌, ◌<◌, ◌≤◌, true, ◌&&◌, leb, List, [], ◌∷◌, IfOk, Ok, Err, Result, sym, ap, ◌∙◌, add-zero, arith, lt-ltb, leb-true}
 use Rattle.std.proofs.lemmas.Bool.{and_parts}
 use Rattle.device.specs.declared.types.Device.{Device}
 use Rattle.device.specs.Devices.{kind_of}
@@ -7,12 +7,12 @@ use Rattle.memory.specs.Meaning.{Meaning, value_limit, write_answer}
 use Rattle.wire.specs.declared.code.Code.{Code}
 use Rattle.frame.specs.declared.fault.Fault.{Fault}
 use Rattle.request.specs.Fields.{bits_in}
-use Rattle.request.specs.Limits.{points, within, all_open, words_within, bits_ok, words_ok, random_ok, random_bits_ok, random_write_ok, all_bits}
-use Rattle.request.specs.Requests.{Access, Setting, Asked, read_bits, read_words, write_bits, random_read, register, random_bits, random_write}
-use Rattle.request.specs.Verdicts.{Test, chain, access_tests, setting_tests, bit_setting_tests, tests, verdict}
+use Rattle.request.specs.Limits.{points, within, all_open, words_within, bits_ok, words_ok, random_ok, random_bits_ok, random_write_ok}
+use Rattle.request.specs.Requests.{Setting, Asked, read_bits, read_words, write_bits, random_bits, random_write}
+use Rattle.request.specs.Verdicts.{Test, chain, setting_tests, bit_setting_tests, tests, verdict}
 use Rattle.request.specs.Writing.{Each}
 use Rattle.request.specs.Readings.{Held, held_read_bits, held_read_words, held_write_bits, held_write_words, held_random_read, held_register, held_monitor, held_random_bits, held_random_write, asked, asked_of, Whole}
-use Rattle.request.specs.Laws.{Passed, Bounded, AccessOk, SettingOk, BitSettingOk}
+use Rattle.request.specs.Laws.{Passed, Bounded, SettingOk, BitSettingOk}
 use Rattle.request.proofs.Passed.{Passes, judge_passed, length_bits}
 
 -- the tests of an accepted request passed, one by one
@@ -63,10 +63,6 @@ all_bounded code m (Err e) w p = tt
 
 -- each entry of a list passed its tests
 module _ (m : Meaning) where
-  each_access : (width : ℕ) (es : List Access) (ts : List Test) → Passes (chain (access_tests m width) es ts) → Each (AccessOk m width) es × Passes ts
-  each_access width [] ts p = (tt, p)
-  each_access width (e ∷ es) ts p = let r = each_access width es ts p.1 in ((p.0, r.0), r.1)
-
   each_setting : (width : ℕ) (es : List Setting) (ts : List Test) → Passes (chain (setting_tests m width) es ts) → Each (SettingOk m width) es × Passes ts
   each_setting width [] ts p = (tt, p)
   each_setting width (e ∷ es) ts p = let r = each_setting width es ts p.1.1 in (((p.0, p.1.0), r.0), r.1)
@@ -74,16 +70,6 @@ module _ (m : Meaning) where
   each_bit_setting : (es : List Setting) (ts : List Test) → Passes (chain (bit_setting_tests m) es ts) → Each (BitSettingOk m) es × Passes ts
   each_bit_setting [] ts p = (tt, p)
   each_bit_setting (e ∷ es) ts p = let r = each_bit_setting es ts p.1.1.1.1 in (((p.0, p.1.0, p.1.1.0, p.1.1.1.0), r.0), r.1)
-
-  pub read_each : (ws ds : List Access) (b : Asked) → verdict m (random_read ws ds) ≡ Ok b → Each (AccessOk m 1) ws × Each (AccessOk m 2) ds
-  read_each ws ds b e =
-      let r = each_access 1 ws (chain (access_tests m 2) ds []) (tests_passed m (random_read ws ds) b e).1 in
-      (r.0, (each_access 2 ds [] r.1).0)
-
-  pub register_each : (ws ds : List Access) (b : Asked) → verdict m (register ws ds) ≡ Ok b → Each (AccessOk m 1) ws × Each (AccessOk m 2) ds
-  register_each ws ds b e =
-      let r = each_access 1 ws (chain (access_tests m 2) ds []) (tests_passed m (register ws ds) b e).1 in
-      (r.0, (each_access 2 ds [] r.1).0)
 
   pub write_each : (ws ds : List Setting) (b : Asked) → verdict m (random_write ws ds) ≡ Ok b → Each (SettingOk m 1) ws × Each (SettingOk m 2) ds
   write_each ws ds b e =
@@ -107,9 +93,3 @@ open_at m d i (suc n) (suc k) h b =
 pub takes : (m : Meaning) (d : Device) (i n k v : ℕ) → within m d i n ≡ true → all_open m d i n ≡ true → k < n → v < value_limit (kind_of d) → write_answer m d (i + k) v ≡ Ok tt
 takes m d i n k v inside opens b small =
     rw (lt-ltb (i + k) (m.extent d) (within_at m d i n k inside b), open_at m d i n k opens b, lt-ltb v (value_limit (kind_of d)) small)
-
--- each value of points in bits is 0 or 1
-pub bit_below : (vs : List ℕ) (k : ℕ) → all_bits vs ≡ true → get_or vs k 0 ≤ 1
-bit_below [] k h = omega arith
-bit_below (v ∷ vs) zero h = leb-true v 1 (and_parts (leb v 1) (all_bits vs) h).0
-bit_below (v ∷ vs) (suc k) h = bit_below vs k (and_parts (leb v 1) (all_bits vs) h).1

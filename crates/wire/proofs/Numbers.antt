@@ -1,5 +1,5 @@
 -- Numbers by their bytes and by their digits.
-use Rattle.std.proofs.Common.{◌≡◌, ℕ, zero, suc, ◌+◌, ◌*◌, ◌/◌, ◌%◌, ◌^◌, ◌<◌, ◌≤◌, Some, Ok, sym, refl, mul_comm, pow-suc, add-one, arith, lit<, pow-add}
+use Rattle.std.proofs.Common.{◌≡◌, ℕ, zero, suc, ◌+◌, ◌*◌, ◌/◌, ◌%◌, ◌^◌, ◌<◌, ◌≤◌, Ok, sym, refl, mul_comm, pow-suc, add-one, arith, lit<, pow-add}
 use native.Mathlib.Nat.{pow-le-pow_right, one-le-pow}
 use lib.Arith.{mod-mul}
 use Rattle.std.proofs.lemmas.Bool.Decides.{nat_tests}
@@ -7,7 +7,7 @@ use Rattle.device.specs.declared.types.Notation.{Notation}
 use Rattle.device.specs.declared.types.Notation.TheVariants.{Decimal, Hexadecimal}
 use Rattle.wire.specs.declared.code.Code.{Code}
 use Rattle.wire.specs.declared.code.Code.TheVariants.{Binary, Ascii}
-use Rattle.wire.specs.Numbers.{per_byte, base, hex_char, hex_value, digit_of}
+use Rattle.wire.specs.Numbers.{per_byte, base, hex_char, digit_of}
 
 pub base_pos : (t : Notation) → 0 < base t
 base_pos Decimal = lit< tt
@@ -22,13 +22,6 @@ digit_below Hexadecimal place c d e = grind (arith, nat_tests)
 pub digit_back : (t : Notation) (place d : ℕ) → d < base t → digit_of t place (hex_char d) ≡ Ok d
 digit_back Decimal place d h = grind (arith, nat_tests)
 digit_back Hexadecimal place d h = grind (arith, nat_tests)
-
--- a hexadecimal digit that was read is below 16, and one that was written reads as itself
-pub hex_below : (c d : ℕ) → hex_value c ≡ Some d → d < 16
-hex_below c d e = grind (arith, nat_tests)
-
-pub hex_back : (d : ℕ) → d < 16 → hex_value (hex_char d) ≡ Some d
-hex_back d h = grind (arith, nat_tests)
 
 -- a number with a digit more that was read is below the next power
 pub digit_more : (t : Notation) (place c d v k : ℕ) → Ok d ≡ digit_of t place c → v < 16 ^ k → v * base t + d < 16 ^ (k + 1)
