@@ -7,8 +7,8 @@ use Rattle.wire.specs.declared.code.Code.{Code}
 use Rattle.server.specs.Registered.{Listed}
 use Rattle.server.specs.Serves.{taken_up}
 use Rattle.request.specs.Requests.{Asked}
-use Rattle.server.specs.Says.{Sendable, Reacts, reaction, head_of}
-use Rattle.server.proofs.Says.{answers_alike}
+use Rattle.server.specs.Says.{Sendable, reaction, head_of}
+use Rattle.server.proofs.Says.{Reacts, answers_alike}
 use Rattle.history.specs.declared.call.Call.{Call}
 use Rattle.server.specs.Histories.{Move, frame, setting, opening, ending, Shown, taken, State, state, at_frame, answer, step, outcome, shown, after, closed, Ran}
 use Rattle.history.specs.Moves.{move, moves}

@@ -12,8 +12,8 @@ use Rattle.request.specs.Requests.{Setting, Asked, read_bits, read_words, write_
 use Rattle.request.specs.Verdicts.{Test, chain, setting_tests, bit_setting_tests, tests, verdict}
 use Rattle.request.specs.Writing.{Each}
 use Rattle.request.specs.Readings.{Held, held_read_bits, held_read_words, held_write_bits, held_write_words, held_random_read, held_register, held_monitor, held_random_bits, held_random_write, asked, asked_of, Whole}
-use Rattle.request.specs.Laws.{Passed, Bounded, SettingOk, BitSettingOk}
-use Rattle.request.proofs.Passed.{Passes, judge_passed, length_bits}
+use Rattle.request.specs.Laws.{Passed, Bounded}
+use Rattle.request.proofs.Passed.{SettingOk, BitSettingOk, Passes, judge_passed, length_bits}
 
 -- the tests of an accepted request passed, one by one
 pub tests_passed : (m : Meaning) (a b : Asked) → verdict m a ≡ Ok b → Passes (tests m a)

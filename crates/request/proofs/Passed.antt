@@ -13,9 +13,22 @@ use Rattle.request.specs.Walks.{Walk, done, number, counts, device, words, bits,
 use Rattle.request.specs.Requests.{Access, Setting, Asked, Command, ReadBits, ReadWords, WriteBits, WriteWords, RandomRead, Register, Monitor, RandomBits, RandomWrite, access, setting, bit_setting, walk}
 use Rattle.request.specs.Verdicts.{Test, judge, chain, access_tests, setting_tests, bit_setting_tests, tests, verdict}
 use Rattle.request.specs.Writing.{Each}
-use Rattle.request.specs.Laws.{AccessOk, SettingOk, BitSettingOk}
+use Rattle.device.specs.Devices.{kind_of}
+use Rattle.request.specs.Limits.{is_bit, within, all_open, words_within, words_open}
 use Rattle.request.proofs.Turns.{all_there}
 use Rattle.request.proofs.Parts.{value_reads}
+
+-- an access of `width` words lies within the extent
+abbrev pub AccessOk : Meaning → ℕ → Access → Type 0
+AccessOk m width e = words_within m e.0 e.1 width ≡ true
+
+-- a setting of `width` words lies within the extent, and all of it is open
+abbrev pub SettingOk : Meaning → ℕ → Setting → Type 0
+SettingOk m width e = (words_within m e.0.0 e.0.1 width ≡ true) × (words_open m e.0.0 e.0.1 width ≡ true)
+
+-- a setting of a point in bits is of a bit device, within the extent, open, and 0 or 1
+abbrev pub BitSettingOk : Meaning → Setting → Type 0
+BitSettingOk m e = (is_bit (kind_of e.0.0) ≡ true) × (within m e.0.0 e.0.1 1 ≡ true) × (all_open m e.0.0 e.0.1 1 ≡ true) × (leb e.1 1 ≡ true)
 
 -- whatever a walk reads, if every test passes then what it comes to is such
 abbrev pub Leads : {A : Type 0} → Walk A → (A → Type 0) → Type 0

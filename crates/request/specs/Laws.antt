@@ -1,12 +1,12 @@
 -- What the reading of a request keeps to, whatever its code.
-use Rattle.std.specs.Prelude.{◌≡◌, ℕ, ◌+◌, ◌*◌, ◌≤◌, Bool, true, List, ◌++◌, length, IfOk, Ok, Result, nat_le}
+use Rattle.std.specs.Prelude.{◌≡◌, ℕ, ◌+◌, ◌*◌, ◌≤◌, Bool, List, ◌++◌, length, IfOk, Ok, Result}
 use Rattle.device.specs.Devices.{kind_of}
 use Rattle.memory.specs.Meaning.{Meaning}
 use Rattle.wire.specs.declared.code.Code.{Code}
 use Rattle.frame.specs.declared.fault.Fault.{Fault}
 use Rattle.frame.specs.declared.header.Header.{Header}
-use Rattle.request.specs.Limits.{points, is_bit, within, all_open, words_within, words_open}
-use Rattle.request.specs.Requests.{Access, Setting, Asked, command_of}
+use Rattle.request.specs.Limits.{points}
+use Rattle.request.specs.Requests.{Asked, command_of}
 use Rattle.request.specs.Readings.{Held, held_read_bits, held_read_words, held_write_bits, held_write_words, held_random_read, held_register, held_monitor, held_random_bits, held_random_write}
 use Rattle.request.specs.Verdicts.{command, verdict, forget}
 use Rattle.request.specs.Writing.{writing, FitsBoth}
@@ -32,15 +32,3 @@ Bounded m (held_register w d bytes place) = (1 ≤ w + d) × (w + d ≤ 192)
 Bounded m held_monitor = Unit {0}
 Bounded m (held_random_bits n bytes place) = (1 ≤ n) × (n ≤ 188)
 Bounded m (held_random_write w d bytes place) = (1 ≤ 12 * w + 14 * d) × (12 * w + 14 * d ≤ 1920)
-
--- an access of `width` words lies within the extent
-abbrev pub AccessOk : Meaning → ℕ → Access → Type 0
-AccessOk m width e = words_within m e.0 e.1 width ≡ true
-
--- a setting of `width` words lies within the extent, and all of it is open
-abbrev pub SettingOk : Meaning → ℕ → Setting → Type 0
-SettingOk m width e = (words_within m e.0.0 e.0.1 width ≡ true) × (words_open m e.0.0 e.0.1 width ≡ true)
-
--- a setting of a point in bits is of a bit device, within the extent, open, and 0 or 1
-abbrev pub BitSettingOk : Meaning → Setting → Type 0
-BitSettingOk m e = (is_bit (kind_of e.0.0) ≡ true) × (within m e.0.0 e.0.1 1 ≡ true) × (all_open m e.0.0 e.0.1 1 ≡ true) × (nat_le e.1 1 ≡ true)

@@ -1,5 +1,5 @@
 -- A request that is written by the forms is answered by its field values alone.
-use Rattle.std.proofs.Common.{◌≡◌, ℕ, ◌+◌, ◌<◌, ◌≤◌, Bool, true, false, cond, not, ◌&&◌, List, length, take, drop, Ok, Err, Option, Result, sym, refl, ap, ◌∙◌, subst, arith, take_at}
+use Rattle.std.proofs.Common.{◌≡◌, ℕ, ◌+◌, ◌<◌, ◌≤◌, Bool, true, false, cond, not, ◌&&◌, List, ◌++◌, length, take, drop, Ok, Err, Option, Result, sym, refl, ap, ◌∙◌, subst, arith, take_at}
 use lib.Seq.{sets}
 use Rattle.memory.specs.Meaning.{Meaning}
 use Rattle.wire.specs.declared.code.Code.{Code}
@@ -8,7 +8,7 @@ use Rattle.frame.specs.declared.fault.Cause.TheVariants.{WriteOff}
 use Rattle.frame.specs.declared.fault.Fault.{Fault}
 use Rattle.frame.specs.declared.header.Header.{Header}
 use Rattle.frame.specs.Headers.{tested}
-use Rattle.frame.specs.Written.{Front, front_bytes}
+use Rattle.frame.specs.Written.{Front, FrontFits, front_bytes}
 use Rattle.frame.proofs.Written.{length_front, length_request, take_request}
 use Rattle.frame.proofs.Written as frames
 use Rattle.request.specs.Requests.{Asked, read_bits, read_words, write_bits, write_words, random_read, register, monitor, random_bits, random_write, command_of}
@@ -18,9 +18,22 @@ use Rattle.request.specs.Writing.{writing}
 use Rattle.request.proofs.Alike.{alike}
 use Rattle.server.specs.declared.answer.Answer.{Answer}
 use Rattle.server.specs.Registered.{Listed}
-use Rattle.server.specs.Answers.{Answered, accepted, refused}
-use Rattle.server.specs.Serves.{Done, unchanged, done, late_fault, answered, taken_up, served, Came}
-use Rattle.server.specs.Says.{command_number, subcommand_number, writes, carried, reaction, frame_of, head_of, Sendable, cause_of, cause_met, Reacts, AnswersAlike, AlikeAnswer}
+use Rattle.server.specs.Answers.{Answered, accepted, refused, answer_bytes}
+use Rattle.server.specs.Serves.{Done, unchanged, done, late_fault, answered, taken_up, Served, served, Came}
+use Rattle.server.specs.Says.{command_number, subcommand_number, writes, carried, reaction, frame_of, head_of, Sendable, cause_of, cause_met, AlikeAnswer}
+
+-- what `Reacted` says of a call, of what is fixed of it
+pub record Reacts (code : Code) (f : Front) (a : Asked) (d : Done) (t : Served) : Type 0 where
+  pub whole : t.taken ≡ length (frame_of code f a)
+  pub reply : t.bytes ≡ answer_bytes code (head_of code f a) d.answer
+  pub told : cause_met t.fault_met ≡ cause_of d.answer
+  pub leaves : t.meaning ≡ d.meaning
+  pub lists : t.registered ≡ d.registered
+
+-- and what `AlikeAnswer` says
+abbrev pub AnswersAlike : Code → List ℕ → ℕ → Meaning → Bool → Option Listed → Served → Type 0
+AnswersAlike code xs space m flag g t =
+    (a : Asked) (f : Front) (rest : List ℕ) → FrontFits f → Sendable a → 4096 ≤ space → xs ≡ frame_of code f a ++ rest → Reacts code f a (reaction a m flag g) t
 
 -- the numbers of a command fit their fields
 command_fits : (a : Asked) → command_number a < 65536

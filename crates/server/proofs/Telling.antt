@@ -11,9 +11,9 @@ use Rattle.memory.specs.Meaning.{Meaning}
 use Rattle.server.specs.declared.answer.Answer.{Answer}
 use Rattle.server.specs.Answers.{accepted, no_data, answer_bytes}
 use Rattle.server.specs.Registered.{Listed}
-use Rattle.server.specs.Writes.{Write, tried, AllTaken}
+use Rattle.server.specs.Writes.{Write, tried}
+use Rattle.server.proofs.Trying.{AllTaken, all_made}
 use Rattle.server.specs.Serves.{Tells, Came, finished, wrote}
-use Rattle.server.proofs.Trying.{all_made}
 
 pub told : (code : Code) (h : Header) (end n at : ℕ) (met : Option Fault) (bytes r₀ r₁ r₂ : List ℕ) (answer : Answer)
     → answer.taken ≡ h.size → answer.length ≡ at + n → answer.fault ≡ met

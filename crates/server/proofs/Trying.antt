@@ -3,7 +3,12 @@ use Rattle.std.proofs.Common.{◌≡◌, ℕ, ◌+◌, ◌-◌, ◌/◌, ◌%◌
 use Rattle.device.specs.declared.types.Device.{Device}
 use Rattle.memory.specs.declared.refusal.Refusal.{Refusal}
 use Rattle.memory.specs.Meaning.{Meaning, write_answer, written}
-use Rattle.server.specs.Writes.{Write, tried, stored, AllTaken, as_point, spread}
+use Rattle.server.specs.Writes.{Write, tried, stored, as_point, spread}
+
+-- no write would be refused
+abbrev pub AllTaken : Meaning → List Write → Type 0
+AllTaken m [] = Unit {0}
+AllTaken m (w ∷ ws) = (write_answer m w.0 w.1 w.2 ≡ Ok tt) × AllTaken m ws
 
 pub tried_none : (m : Meaning) → tried m [] ≡ m
 unfolding tried

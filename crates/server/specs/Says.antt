@@ -14,7 +14,7 @@ use Rattle.request.specs.Writing.{writing, FitsBoth}
 use Rattle.server.specs.declared.answer.Answer.{Answer}
 use Rattle.server.specs.Registered.{Listed}
 use Rattle.server.specs.Answers.{Answered, accepted, refused, answer_bytes}
-use Rattle.server.specs.Serves.{Done, unchanged, done, Served}
+use Rattle.server.specs.Serves.{Done, unchanged, done}
 
 -- the number of a request's command
 abbrev pub command_number : Asked → ℕ
@@ -82,20 +82,7 @@ abbrev pub cause_met : Option Fault → Option Cause
 cause_met None = None
 cause_met (Some f) = Some f.cause
 
--- a frame that is the writing of a request is taken whole; the reply is the writing of the answer `d` in the same code, and `d` is what is left
-pub record Reacts (code : Code) (f : Front) (a : Asked) (d : Done) (t : Served) : Type 0 where
-  pub whole : t.taken ≡ length (frame_of code f a)
-  pub reply : t.bytes ≡ answer_bytes code (head_of code f a) d.answer
-  pub told : cause_met t.fault_met ≡ cause_of d.answer
-  pub leaves : t.meaning ≡ d.meaning
-  pub lists : t.registered ≡ d.registered
-
--- a frame that is the writing of a request is answered by its field values alone, in whichever code, and whatever follows it
-abbrev pub AnswersAlike : Code → List ℕ → ℕ → Meaning → Bool → Option Listed → Served → Type 0
-AnswersAlike code xs space m flag g t =
-    (a : Asked) (f : Front) (rest : List ℕ) → FrontFits f → Sendable a → 4096 ≤ space → xs ≡ frame_of code f a ++ rest → Reacts code f a (reaction a m flag g) t
-
--- the same of a call, whose reply stands at the front of the reply space
+-- a frame that is the writing of a request is taken whole; the reply, at the front of the reply space, is the writing of the answer `d` in the same code, and `d` is what is left
 pub record Reacted (code : Code) (f : Front) (a : Asked) (d : Done) (r : Answer) (after : List ℕ) (m : Meaning) (g : Option Listed) : Type 0 where
   pub whole : r.taken ≡ length (frame_of code f a)
   pub long : r.length ≡ length (answer_bytes code (head_of code f a) d.answer)
@@ -104,6 +91,7 @@ pub record Reacted (code : Code) (f : Front) (a : Asked) (d : Done) (r : Answer)
   pub leaves : m ≡ d.meaning
   pub lists : g ≡ d.registered
 
+-- a frame that is the writing of a request is answered by its field values alone, in whichever code, and whatever follows it
 abbrev pub AlikeAnswer : Code → List ℕ → Meaning → Bool → Option Listed → Answer → List ℕ → List ℕ → Meaning → Option Listed → Type 0
 AlikeAnswer code xs m flag g r before after m' g' =
     (a : Asked) (f : Front) (rest : List ℕ) → FrontFits f → Sendable a → 4096 ≤ length before → xs ≡ frame_of code f a ++ rest

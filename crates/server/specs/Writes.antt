@@ -1,5 +1,5 @@
 -- The point writes that a request makes, in order, and what they leave.
-use Rattle.std.specs.Prelude.{◌≡◌, ℕ, zero, suc, ◌+◌, ◌/◌, ◌%◌, List, [], ◌∷◌, ◌++◌, Ok}
+use Rattle.std.specs.Prelude.{ℕ, zero, suc, ◌+◌, ◌/◌, ◌%◌, List, [], ◌∷◌, ◌++◌}
 use Rattle.device.specs.declared.types.Device.{Device}
 use Rattle.device.specs.declared.types.Kind.{Kind}
 use Rattle.device.specs.declared.types.Kind.TheVariants.{Bit, Word as Whole}
@@ -28,11 +28,6 @@ stored m ws = record { extent = m.extent; value = puts m.value ws; opened = m.op
 unfoldable pub tried : Meaning → List Write → Meaning
 tried m [] = m
 tried m (w ∷ ws) = tried (written (write_answer m w.0 w.1 w.2) m w.0 w.1 w.2) ws
-
--- no write would be refused
-abbrev pub AllTaken : Meaning → List Write → Type 0
-AllTaken m [] = Unit {0}
-AllTaken m (w ∷ ws) = (write_answer m w.0 w.1 w.2 ≡ Ok tt) × AllTaken m ws
 
 -- a value for each point, one point behind the other
 abbrev pub in_row : Device → ℕ → List ℕ → List Write
