@@ -25,10 +25,9 @@ abbrev pub subheader_numbers : Form → Header → List Number
 subheader_numbers ThreeE h = one 0xD0 ∷ one 0 ∷ []
 subheader_numbers FourE h = one 0xD4 ∷ one 0 ∷ two h.serial ∷ two 0 ∷ []
 
--- what stands before the data: the subheader, D0 00 or D4 00 in that order; in 4E the serial and the zero word; the route; the length; the end code
+-- what stands before the data: that, the route, the length and the end code
 abbrev pub head_numbers : Form → Header → ℕ → ℕ → List Number
-head_numbers ThreeE h n end = one 0xD0 ∷ one 0 ∷ route_numbers h.route (two n ∷ two end ∷ [])
-head_numbers FourE h n end = one 0xD4 ∷ one 0 ∷ two h.serial ∷ two 0 ∷ route_numbers h.route (two n ∷ two end ∷ [])
+head_numbers form h n end = subheader_numbers form h ++ route_numbers h.route (two n ∷ two end ∷ [])
 
 -- and how many bytes that is
 abbrev pub head_size : Form → ℕ

@@ -1,5 +1,7 @@
 -- What a frame that was taken showed and left, by what it asks.
 use Rattle.std.proofs.Common.{◌≡◌, ℕ, zero, suc, ◌≤◌, Bool, true, cond, List, [], ◌∷◌, length, take, Some, None, Ok, Err, Option, Result, sym, refl, ap, ◌∙◌, inl, inr, arith, le-leb}
+use Rattle.std.specs.Prelude.{is_none}
+use Rattle.std.specs.Option.{option_or}
 use lib.Seq.{sets}
 use Rattle.std.proofs.lemmas.Bool.{cond-true}
 use Rattle.device.specs.declared.types.Device.{Device}
@@ -17,8 +19,8 @@ use Rattle.server.specs.Registered.{Listed}
 use Rattle.server.specs.Answers.{Data, Answered, accepted as answered, refused, answer_bytes}
 use Rattle.server.specs.Serves.{done, Served, finished, late_fault, answered as judged, taken_up, served}
 use Rattle.server.specs.Histories.{taken, answer}
-use Rattle.history.specs.Asks.{largest, asked_in, writes_of, writes_in, list_of, list_in, shows, none, by_header, reply_to}
-use Rattle.history.specs.Latest.{given, or_else, Draws, Monitoring}
+use Rattle.history.specs.Asks.{largest, asked_in, writes_of, writes_in, list_of, list_in, shows, by_header, reply_to}
+use Rattle.history.specs.Latest.{given, Draws, Monitoring}
 use Rattle.history.proofs.Looser.{request_too, tested_too}
 
 -- the value of a point after writes
@@ -28,7 +30,7 @@ puts_given V (w ∷ ws) d n = puts_given (put V w.0 w.1 w.2) ws d n
 
 -- a request that is carried out gives its points its values, and nothing else does
 done_values : (h : Header) (a : Asked) (m : Meaning) (g : Option Listed) (d : Device) (n : ℕ)
-    → (done a m g).meaning.value d n ≡ cond (none (late_fault h (done a m g).answer)) (given d n (m.value d n) (writes_of a)) (m.value d n)
+    → (done a m g).meaning.value d n ≡ cond (is_none (late_fault h (done a m g).answer)) (given d n (m.value d n) (writes_of a)) (m.value d n)
 done_values h (read_bits e i k) m g d n = refl
 done_values h (read_words e i k) m g d n = refl
 done_values h (write_bits e i vs) m g d n = puts_given m.value (writes_of (write_bits e i vs)) d n
@@ -42,7 +44,7 @@ done_values h (random_write ws ds) m g d n = puts_given m.value (writes_of (rand
 
 -- and a registration alone replaces the list
 done_list : (h : Header) (a : Asked) (m : Meaning) (g : Option Listed)
-    → (done a m g).registered ≡ cond (none (late_fault h (done a m g).answer)) (or_else (list_of a) g) g
+    → (done a m g).registered ≡ cond (is_none (late_fault h (done a m g).answer)) (option_or (list_of a) g) g
 done_list h (read_bits e i k) m g = refl
 done_list h (read_words e i k) m g = refl
 done_list h (write_bits e i vs) m g = refl
@@ -84,9 +86,9 @@ came_to code xs space m flag g small = by_frame (tested code space xs) refl
     by_frame (Err f) e = not_taken f
 
 pub taken_values : (code : Code) (xs : List ℕ) (m : Meaning) (g : Option Listed) (t : Served) → CameTo code xs m g t → (d : Device) (n : ℕ)
-    → t.meaning.value d n ≡ cond (none t.fault_met) (given d n (m.value d n) (writes_in (asked_in code xs))) (m.value d n)
+    → t.meaning.value d n ≡ cond (is_none t.fault_met) (given d n (m.value d n) (writes_in (asked_in code xs))) (m.value d n)
 taken_values code xs m g t (carried h a passes asks) d n =
-    done_values h a m g d n ∙ ap (λ r. cond (none (late_fault h (done a m g).answer)) (given d n (m.value d n) (writes_in r)) (m.value d n)) (sym asks)
+    done_values h a m g d n ∙ ap (λ r. cond (is_none (late_fault h (done a m g).answer)) (given d n (m.value d n) (writes_in r)) (m.value d n)) (sym asks)
 taken_values code xs m g t (turned_down h f passes) d n = refl
 taken_values code xs m g t (not_taken f) d n = refl
 
@@ -108,15 +110,15 @@ taken_extent code xs m g t (turned_down h f passes) = refl
 taken_extent code xs m g t (not_taken f) = refl
 
 pub taken_list : (code : Code) (xs : List ℕ) (m : Meaning) (g : Option Listed) (t : Served) → CameTo code xs m g t
-    → t.registered ≡ cond (none t.fault_met) (or_else (list_in (asked_in code xs)) g) g
+    → t.registered ≡ cond (is_none t.fault_met) (option_or (list_in (asked_in code xs)) g) g
 taken_list code xs m g t (carried h a passes asks) =
-    done_list h a m g ∙ ap (λ r. cond (none (late_fault h (done a m g).answer)) (or_else (list_in r) g) g) (sym asks)
+    done_list h a m g ∙ ap (λ r. cond (is_none (late_fault h (done a m g).answer)) (option_or (list_in r) g) g) (sym asks)
 taken_list code xs m g t (turned_down h f passes) = refl
 taken_list code xs m g t (not_taken f) = refl
 
 -- an accepted read shows what its form makes of the values
 pub taken_shows : (code : Code) (xs : List ℕ) (m : Meaning) (g : Option Listed) (t : Served) → CameTo code xs m g t → (a : Asked) (s : Data)
-    → asked_in code xs ≡ Ok a → shows a m.value ≡ Some s → none t.fault_met ≡ true → t.bytes ≡ reply_to code xs (answered s)
+    → asked_in code xs ≡ Ok a → shows a m.value ≡ Some s → is_none t.fault_met ≡ true → t.bytes ≡ reply_to code xs (answered s)
 taken_shows code xs m g t (carried h b passes asks) a s is sh ok =
     let same : b ≡ a = cc in
     ap (by_header code (Ok h)) (ap (λ q. (done q m g).answer) same ∙ done_shows a m g s sh) ∙ sym (ap (λ r. by_header code r (answered s)) passes)
@@ -130,11 +132,11 @@ take_short (suc n) (x ∷ xs) = let h = take_short n xs in omega (arith, h)
 
 -- what an answer draws
 draws_answer : (code : Code) (xs space : List ℕ) (h : Header) (a : Asked) → tested code 4096 xs ≡ Ok h → asked_in code xs ≡ Ok a → (r : Answered)
-    → Draws (none (late_fault h r)) code xs space (taken h.size (length (answer_bytes code h r)) (late_fault h r) (sets space 0 (answer_bytes code h r)))
+    → Draws (is_none (late_fault h r)) code xs space (taken h.size (length (answer_bytes code h r)) (late_fault h r) (sets space 0 (answer_bytes code h r)))
 draws_answer code xs space h a passes asks (answered s) = let e = ap (λ r. by_header code r (answered s)) (sym passes) in (a, s, asks, (ap length e, ap (sets space 0) e))
 draws_answer code xs space h a passes asks (refused c) = let e = ap (λ r. by_header code r (refused c)) (sym passes) in inr (c, (ap length e, ap (sets space 0) e))
 
-pub taken_draws : (code : Code) (xs space : List ℕ) (m : Meaning) (g : Option Listed) (t : Served) → CameTo code xs m g t → Draws (none t.fault_met) code xs space (answer t space)
+pub taken_draws : (code : Code) (xs space : List ℕ) (m : Meaning) (g : Option Listed) (t : Served) → CameTo code xs m g t → Draws (is_none t.fault_met) code xs space (answer t space)
 taken_draws code xs space m g t (carried h a passes asks) = draws_answer code xs space h a passes asks (done a m g).answer
 taken_draws code xs space m g t (turned_down h f passes) = let e = ap (λ r. by_header code r (refused f.cause)) (sym passes) in inr (f.cause, (ap length e, ap (sets space 0) e))
 taken_draws code xs space m g t (not_taken f) = inl (refl, refl)

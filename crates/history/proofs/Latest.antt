@@ -1,5 +1,7 @@
 -- The laws of a history: the latest write wins, and a monitor shows the latest registration.
 use Rattle.std.proofs.Common.{◌≡◌, ℕ, zero, suc, ◌<◌, ◌≤◌, Bool, true, false, cond, List, [], ◌∷◌, length, take, is_ok, Some, None, Ok, Err, Option, Result, sym, refl, ap, ◌∙◌, subst, arith}
+use Rattle.std.specs.Prelude.{is_none}
+use Rattle.std.specs.Option.{option_or}
 use lib.Seq.{sets}
 use Rattle.device.specs.declared.types.Device.{Device}
 use Rattle.memory.specs.declared.refusal.Refusal.{Refusal}
@@ -12,8 +14,8 @@ use Rattle.server.specs.Registered.{Listed}
 use Rattle.server.specs.Answers.{Data, accepted as answered, refused}
 use Rattle.server.specs.Serves.{Served, done, shown as shown-list, finished}
 use Rattle.server.specs.Histories.{Move, frame, setting, opening, ending, Shown, State, at_frame, opened, ended, step, answer, outcome, shown, final, Ran}
-use Rattle.history.specs.Asks.{asked_in, sent, list_sent, shows, none, accepted, by_header, reply_to}
-use Rattle.history.specs.Latest.{given, latest, by_history, or_else, latest_list, call_at, outcome_at, Replied, Draws, LatestWins, Monitoring, LatestShown, KeptTo, KeptOn}
+use Rattle.history.specs.Asks.{asked_in, sent, list_sent, shows, accepted, by_header, reply_to}
+use Rattle.history.specs.Latest.{given, latest, by_history, latest_list, call_at, outcome_at, Replied, Draws, LatestWins, Monitoring, LatestShown, KeptTo, KeptOn}
 use Rattle.history.proofs.Looser.{tested_too}
 use Rattle.history.proofs.Onward.{ran_on}
 use Rattle.history.proofs.Accepts.{came_to, taken_values, taken_extent, taken_list, taken_shows, taken_draws, taken_monitors}
@@ -88,7 +90,7 @@ one_read : (s : State) (c : Move) → Small s.meaning → (code : Code) (xs spac
     → shows a s.meaning.value ≡ Some x → accepted (outcome s c) ≡ true → Replied (outcome s c) space (reply_to code xs (answered x))
 one_read s c small code xs space a x is asks sh ok =
     let t = at_frame s code xs space in
-    let fine : none t.fault_met ≡ true = sym (ap (λ e. accepted (outcome s e)) is) ∙ ok in
+    let fine : is_none t.fault_met ≡ true = sym (ap (λ e. accepted (outcome s e)) is) ∙ ok in
     let bytes = taken_shows code xs s.meaning s.registered t (came_to code xs (length space) s.meaning s.flag s.registered small) a x asks sh fine in
     subst (λ e. Replied (outcome s e) space (reply_to code xs (answered x))) (sym is) (replied t space _ bytes)
 
@@ -115,7 +117,7 @@ law_draws s (c ∷ ms) small (suc k) code xs space h is = law_draws (step s c) m
 
 -- registrations --
 
-one_list : (s : State) (c : Move) → Small s.meaning → (step s c).registered ≡ cond (accepted (outcome s c)) (or_else (list_sent c) s.registered) s.registered
+one_list : (s : State) (c : Move) → Small s.meaning → (step s c).registered ≡ cond (accepted (outcome s c)) (option_or (list_sent c) s.registered) s.registered
 one_list s (frame code xs space) small = taken_list code xs s.meaning s.registered _ (came_to code xs (length space) s.meaning s.flag s.registered small)
 one_list s (setting d n v) small = same_cond (accepted (outcome s (setting d n v))) s.registered
 one_list s opening small = opened_list s.before s ∙ same_cond (accepted (outcome s opening)) s.registered

@@ -1,5 +1,5 @@
 -- What the calls of a history ask, by their bytes alone, and whether they were accepted.
-use Rattle.std.specs.Prelude.{ℕ, Bool, true, false, List, [], ◌∷◌, ◌++◌, take, is_ok, Some, None, Ok, Err, Option, Result}
+use Rattle.std.specs.Prelude.{ℕ, Bool, true, false, List, [], ◌∷◌, ◌++◌, take, is_ok, is_none, Some, None, Ok, Err, Option, Result}
 use Rattle.memory.specs.Meaning.{Meaning, extent_limit}
 use Rattle.wire.specs.declared.code.Code.{Code}
 use Rattle.wire.specs.Numbers.{then}
@@ -81,13 +81,9 @@ shows monitor V = None
 shows (random_bits ss) V = None
 shows (random_write ws ds) V = None
 
-abbrev pub none : Option Fault → Bool
-none None = true
-none (Some f) = false
-
 -- a frame is accepted if it met no fault, which is the end code 0000; a setting if the memory did not refuse it
 abbrev pub accepted : Shown → Bool
-accepted (taken t n f space) = none f
+accepted (taken t n f space) = is_none f
 accepted (written r) = is_ok r
 accepted (window f) = false
 

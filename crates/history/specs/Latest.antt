@@ -1,5 +1,6 @@
 -- What a history says of a point and of the registration, and what a server keeps to by it.
 use Rattle.std.specs.Prelude.{◌≡◌, ℕ, ◌<◌, ◌≤◌, Bool, true, false, cond, ◌⊎◌, List, [], ◌∷◌, ◌++◌, length, take, Some, None, Ok, Option, slice_index_or}
+use Rattle.std.specs.Option.{option_or}
 use Rattle.std.proofs.lemmas.List.Edits.{sets}
 use Rattle.device.specs.declared.types.Device.{Device}
 use Rattle.memory.specs.Meaning.{extent_limit, same_point}
@@ -31,15 +32,11 @@ latest d n v (m ∷ ms) (o ∷ os) = latest d n (cond (accepted o) (given d n v 
 abbrev pub by_history : Values → List Move → List Shown → Values
 by_history V ms os d n = latest d n (V d n) ms os
 
-abbrev pub or_else : Option Listed → Option Listed → Option Listed
-or_else None g = g
-or_else (Some l) g = Some l
-
 -- the list that the latest accepted registration sent, or g if there was none
 abbrev pub latest_list : Option Listed → List Move → List Shown → Option Listed
 latest_list g [] os = g
 latest_list g (m ∷ ms) [] = g
-latest_list g (m ∷ ms) (o ∷ os) = latest_list (cond (accepted o) (or_else (list_sent m) g) g) ms os
+latest_list g (m ∷ ms) (o ∷ os) = latest_list (cond (accepted o) (option_or (list_sent m) g) g) ms os
 
 abbrev pub call_at : List Move → ℕ → Move
 call_at ms k = slice_index_or ms k ending

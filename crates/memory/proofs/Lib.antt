@@ -4,4 +4,3 @@ pub mod Smallness
 pub mod Bitwise
 pub mod Units
 pub mod Points
-pub mod Covered

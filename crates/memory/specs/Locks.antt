@@ -1,5 +1,6 @@
 -- Which points locked ranges close, and what one more lock answers and leaves.
-use Rattle.std.specs.Prelude.{◌≡◌, ℕ, Bool, false, cond, not, ◌&&◌, ◌||◌, List, [], ◌∷◌, ◌++◌, length, Ok, Err, Result, ◌==◌, nat_le, nat_lt}
+use Rattle.std.specs.Prelude.{◌≡◌, ℕ, Bool, false, cond, not, ◌&&◌, List, [], ◌∷◌, ◌++◌, length, Ok, Err, Result, ◌==◌, nat_le, nat_lt}
+use Rattle.std.specs.List.{list_any}
 use Rattle.std.proofs.Common.{ap}
 use Rattle.device.specs.declared.types.Device.{Device}
 use Rattle.device.specs.declared.types.Device.TheVariants.{M}
@@ -15,8 +16,7 @@ covers r d n = place_of r.device == place_of d && (nat_le r.first n && nat_le n 
 
 -- whether a point lies in one of the ranges
 abbrev pub is_locked : List Range → Device → ℕ → Bool
-is_locked [] d n = false
-is_locked (r ∷ rs) d n = covers r d n || is_locked rs d n
+is_locked rs d n = list_any (λ r. covers r d n) rs
 
 -- the range that fills a place where none is held
 abbrev pub no_range : Range

@@ -5,8 +5,10 @@ use Rattle.memory.specs.Meaning.{Meaning}
 use Rattle.wire.specs.declared.code.Code.{Code}
 use Rattle.wire.specs.Numbers.{per_byte, encode}
 use Rattle.wire.specs.Fields.{encode_device}
+use Rattle.wire.specs.Series.{values_bytes}
 use Rattle.wire.specs.Points.{bits_bytes, bits_size}
 use Rattle.wire.proofs.RoundTrip.{length_encode, length_device}
+use Rattle.wire.proofs.Lengths.{length_values, length_bits_bytes}
 use Rattle.frame.specs.declared.fault.Cause.{Cause}
 use Rattle.frame.specs.declared.fault.Fault.{Fault}
 use Rattle.frame.specs.declared.header.Header.{Header}
@@ -14,11 +16,10 @@ use Rattle.frame.specs.Faults.{fault}
 use Rattle.request.specs.Walks.{Walk, done, number, counts, device, words, bits, at_field, at_device, run, list}
 use Rattle.request.specs.Requests.{Access, Setting, Asked, read_bits, read_words, write_bits, write_words, random_read, register, monitor, random_bits, random_write, Command, command_of, access, setting, bit_setting, walk}
 use Rattle.request.specs.Verdicts.{command, Test, judge, chain, access_tests, setting_tests, bit_setting_tests, tests, verdict, forget}
-use Rattle.request.specs.Writing.{Field, num, pair, dev, vals, halves, write, write_values, access_fields, setting_fields, fields, writing, FieldFits, Each, FitsBoth}
+use Rattle.request.specs.Writing.{Field, num, pair, dev, vals, halves, write, access_fields, setting_fields, fields, writing, FieldFits, Each, FitsBoth}
 use Rattle.request.specs.Readings.{judged_by, request_in}
 use Rattle.request.specs.Laws.{Alike, Passed}
-use Rattle.request.proofs.Halves.{length_bits_bytes}
-use Rattle.request.proofs.Written.{Stands, on, number_back, device_back, counts_back, length_pair, words_back, length_values, bits_back}
+use Rattle.request.proofs.Written.{Stands, on, number_back, device_back, counts_back, length_pair, words_back, bits_back}
 use Rattle.request.proofs.Passed.{passed}
 
 -- a walk over fields that are those it asks for makes the tests `ts`, and reads `a`
@@ -54,7 +55,7 @@ comes_to code bytes (says_device {d = d} {i = i} {fs = fs} h t) dv fd at s =
     (comes_to code bytes t at at (at + 4 * per_byte code) (on bytes (encode_device code d i) (write code fs) at (4 * per_byte code) (length_device code d i) s))
 comes_to code bytes (says_words {vs = vs} {fs = fs} h t) dv fd at s =
     rw (words_back code bytes (write code fs) vs at h s)
-    (comes_to code bytes t dv at (at + length vs * (2 * per_byte code)) (on bytes (write_values code vs) (write code fs) at (length vs * (2 * per_byte code)) (length_values code vs) s))
+    (comes_to code bytes t dv at (at + length vs * (2 * per_byte code)) (on bytes (values_bytes code 2 vs) (write code fs) at (length vs * (2 * per_byte code)) (length_values code 2 vs) s))
 comes_to code bytes (says_bits {vs = vs} {fs = fs} h t) dv fd at s =
     rw (bits_back code bytes (write code fs) vs at h s)
     (comes_to code bytes t dv at (at + bits_size code (length vs)) (on bytes (bits_bytes code vs) (write code fs) at (bits_size code (length vs)) (length_bits_bytes code vs) s))

@@ -1,27 +1,16 @@
 -- Points in bits that were written read as themselves, in either code.
 use Rattle.std.proofs.Common.{◌≡◌, ℕ, zero, suc, ◌+◌, ◌*◌, ◌/◌, ◌%◌, ◌<◌, true, List, [], ◌∷◌, ◌++◌, length, get_or, Ok, Result, sym, refl, ap, ◌∙◌, add-zero, arith}
+use Rattle.std.specs.Prelude.{map}
+use Rattle.std.specs.Result.{result_unwrap_or}
 use Rattle.device.specs.declared.types.Notation.TheVariants.{Hexadecimal}
 use Rattle.wire.specs.declared.code.Code.{Code}
 use Rattle.wire.specs.declared.code.Code.TheVariants.{Binary, Ascii}
-use Rattle.wire.specs.Numbers.{then}
-use Rattle.wire.specs.Points.{half_bytes, digit_each, bits_bytes, bits_size, half_in, filled}
+use Rattle.wire.specs.Numbers.{then, hex_char}
+use Rattle.wire.specs.Points.{half_bytes, bits_bytes, half_in, filled}
 use Rattle.wire.proofs.Numbers.{digit_back}
 use Rattle.frame.specs.declared.fault.Fault.{Fault}
-use Rattle.request.specs.Fields.{placed, half_at, or_zero, bit_in, bits_in, list_end}
+use Rattle.request.specs.Fields.{placed, half_at, bit_in, bits_in, list_end}
 use Rattle.request.specs.Writing.{Each}
-
-length_half_bytes : (ds : List ℕ) → length (half_bytes ds) ≡ (length ds + 1) / 2
-length_half_bytes [] = refl
-length_half_bytes (a ∷ []) = refl
-length_half_bytes (a ∷ b ∷ ds) = omega (arith, length_half_bytes ds)
-
-length_digit_each : (ds : List ℕ) → length (digit_each ds) ≡ length ds
-length_digit_each [] = refl
-length_digit_each (d ∷ ds) = ap suc (length_digit_each ds)
-
-pub length_bits_bytes : (code : Code) (ds : List ℕ) → length (bits_bytes code ds) ≡ bits_size code (length ds)
-length_bits_bytes Binary ds = length_half_bytes ds
-length_bits_bytes Ascii ds = length_digit_each ds
 
 -- each point's digit
 half_byte_back : (ds rest : List ℕ) (i : ℕ) → Each (λ d. d < 16) ds → i < length ds → half_in Binary (half_bytes ds ++ rest) i ≡ Ok (get_or ds i 0)
@@ -43,7 +32,7 @@ half_byte_back (a ∷ b ∷ ds) rest (suc (suc i)) ok h =
     let side : suc (suc i) % 2 ≡ i % 2 = omega arith in
     rw (on, side) (half_byte_back ds rest i ok.1.1 (omega arith))
 
-digit_each_back : (ds rest : List ℕ) (i : ℕ) → Each (λ d. d < 16) ds → i < length ds → half_in Ascii (digit_each ds ++ rest) i ≡ Ok (get_or ds i 0)
+digit_each_back : (ds rest : List ℕ) (i : ℕ) → Each (λ d. d < 16) ds → i < length ds → half_in Ascii (map hex_char ds ++ rest) i ≡ Ok (get_or ds i 0)
 digit_each_back [] rest i ok h = absurd (let b : ⊥ = omega arith in b)
 digit_each_back (d ∷ ds) rest zero ok h = digit_back Hexadecimal 0 d ok.0
 digit_each_back (d ∷ ds) rest (suc i) ok h = digit_each_back ds rest i ok.1 (omega arith)
@@ -92,7 +81,7 @@ values_from code xs (d ∷ ds) i h =
 
 pub halves_back : (code : Code) (ds rest : List ℕ) → Each (λ d. d < 16) ds → bits_in code (bits_bytes code ds ++ rest) 0 (length ds) ≡ ds
 halves_back code ds rest ok =
-    values_from code (bits_bytes code ds ++ rest) ds 0 (λ j b. ap (bit_in code (bits_bytes code ds ++ rest)) (zero_is j) ∙ ap or_zero (half_back code ds rest j ok b))
+    values_from code (bits_bytes code ds ++ rest) ds 0 (λ j b. ap (bit_in code (bits_bytes code ds ++ rest)) (zero_is j) ∙ ap (λ r. result_unwrap_or r 0) (half_back code ds rest j ok b))
   where
     zero_is : (j : ℕ) → 0 + j ≡ j
     zero_is j = omega arith

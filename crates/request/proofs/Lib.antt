@@ -1,4 +1,3 @@
-pub mod Opens
 pub mod Turns
 pub mod Lists
 pub mod Parts

@@ -1,5 +1,6 @@
 -- A walk over a list of entries, of any kind.
-use Rattle.std.proofs.Common.{◌≡◌, ℕ, zero, suc, ◌+◌, ◌*◌, List, [], ◌∷◌, drop, Ok, Err, Result, sym, refl, ap, ◌∙◌, add-mul, arith, drop-drop}
+use Rattle.std.proofs.Common.{◌≡◌, ℕ, zero, suc, ◌+◌, ◌*◌, List, [], ◌∷◌, drop, Ok, Err, Result, sym, refl, ◌∙◌, arith, drop-drop}
+use Rattle.std.proofs.Math.Nat.{suc-mul}
 use Rattle.wire.specs.declared.code.Code.{Code}
 use Rattle.wire.specs.declared.code.FieldFault.{FieldFault}
 use Rattle.wire.specs.Numbers.{then}
@@ -13,12 +14,6 @@ pub record Entry {X A : Type 0} (code : Code) (bytes : List ℕ) (e : (X → Wal
       → (dv fd dv' fd' at : ℕ) → run code bytes (e k) dv fd at ≡ then (r at) (λ a. run code bytes (k a.0) dv' fd' (at + a.1))
   pub reads : (at : ℕ) (a : X × ℕ) → r at ≡ Ok a → q (drop at bytes) ≡ Ok a
   pub sized : (at : ℕ) (a : X × ℕ) → r at ≡ Ok a → a.1 ≡ size
-
-one_more : (n k : ℕ) → suc n * k ≡ k + n * k
-one_more n k = ap (λ j. j * k) (one n) ∙ add-mul 1 n k ∙ ap (λ j. j + n * k) (omega arith)
-  where
-    one : (n : ℕ) → suc n ≡ 1 + n
-    one n = omega arith
 
 module _ {X A : Type 0} (code : Code) (bytes : List ℕ) (e : (X → Walk A) → Walk A) (r : ℕ → Result (X × ℕ) Fault) (q : List ℕ → Result (X × ℕ) FieldFault) (size : ℕ) (law : Entry code bytes e r q size) where
   -- what comes after looks at no place before it
@@ -54,5 +49,5 @@ module _ {X A : Type 0} (code : Code) (bytes : List ℕ) (e : (X → Walk A) →
     where
       go : (y : Result (X × ℕ) Fault) → r at ≡ y → then y (λ a. list_end r n (at + a.1)) ≡ Ok end
           → ((a : X × ℕ) → list_end r n (at + a.1) ≡ Ok end → end ≡ at + a.1 + n * size) → end ≡ at + suc n * size
-      go (Ok a) d h ih = omega (arith, ih a h, law.sized at a d, one_more n size)
+      go (Ok a) d h ih = omega (arith, ih a h, law.sized at a d, suc-mul n size)
       go (Err f) d h ih = let z : ◌≡◌ {A = ℕ} 0 1 = cc in omega arith

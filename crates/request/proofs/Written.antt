@@ -1,17 +1,19 @@
 -- A field that was written at a place reads as itself, in either code.
-use Rattle.std.proofs.Common.{◌≡◌, ℕ, suc, ◌+◌, ◌*◌, ◌^◌, ◌<◌, ◌≤◌, cond, List, [], ◌∷◌, ◌++◌, length, drop, Ok, Err, sym, refl, ap, ◌∙◌, append_assoc, add-mul, arith, length-append, length-drop, drop-drop, drop_at, le-leb}
+use Rattle.std.proofs.Common.{◌≡◌, ℕ, ◌+◌, ◌*◌, ◌^◌, ◌<◌, ◌≤◌, cond, List, [], ◌∷◌, ◌++◌, length, drop, Ok, Err, sym, refl, ap, ◌∙◌, append_assoc, arith, length-append, length-drop, drop-drop, drop_at, le-leb}
 use Rattle.device.specs.declared.types.Device.{Device}
 use Rattle.wire.specs.declared.code.Code.{Code}
 use Rattle.wire.specs.Numbers.{per_byte, number_in, encode}
 use Rattle.wire.specs.Fields.{encode_device, number_limit}
+use Rattle.wire.specs.Series.{values_bytes}
 use Rattle.wire.specs.Points.{bits_bytes, bits_size}
 use Rattle.wire.proofs.RoundTrip.{length_encode}
 use Rattle.wire.proofs.RoundTrip as wire
+use Rattle.wire.proofs.Lengths.{length_values, length_bits_bytes}
 use Rattle.frame.specs.declared.fault.Cause.TheVariants.{BadSize}
 use Rattle.frame.specs.Faults.{fault}
 use Rattle.request.specs.Fields.{present, number_at, device_at, counts_at, value_at, list_end, list_in, words_at, bits_at}
-use Rattle.request.specs.Writing.{write_values, Each}
-use Rattle.request.proofs.Halves.{length_bits_bytes, filled_back, halves_end, halves_back}
+use Rattle.request.specs.Writing.{Each}
+use Rattle.request.proofs.Halves.{filled_back, halves_end, halves_back}
 
 -- `xs` stands from `at` to the end
 pub record Stands (bytes xs : List ℕ) (at : ℕ) : Type 0 where
@@ -55,35 +57,26 @@ counts_back code bytes rest at w d hw hd s =
     )
 
 -- the write data of a batch in words
-pub length_values : (code : Code) (vs : List ℕ) → length (write_values code vs) ≡ length vs * (2 * per_byte code)
-length_values code [] = omega arith
-length_values code (v ∷ vs) =
-    length-append (encode code 2 v) (write_values code vs) ∙ ap (λ n. n + length (write_values code vs)) (length_encode code 2 v) ∙ ap (λ n. 2 * per_byte code + n) (length_values code vs)
-    ∙ omega (arith, add-mul 1 (length vs) (2 * per_byte code), suc_is (length vs) (2 * per_byte code))
-  where
-    suc_is : (n k : ℕ) → suc n * k ≡ (1 + n) * k
-    suc_is n k = ap (λ m. m * k) (omega arith)
-
-values_end : (code : Code) (bytes rest : List ℕ) (vs : List ℕ) (at : ℕ) → Each (λ v. v < 65536) vs → Stands bytes (write_values code vs ++ rest) at
+values_end : (code : Code) (bytes rest : List ℕ) (vs : List ℕ) (at : ℕ) → Each (λ v. v < 65536) vs → Stands bytes (values_bytes code 2 vs ++ rest) at
     → (e : ℕ) × (list_end (value_at code bytes) (length vs) at ≡ Ok e)
 values_end code bytes rest [] at ok s = (at, refl)
 values_end code bytes rest (v ∷ vs) at ok s =
-    let s1 : Stands bytes (encode code 2 v ++ (write_values code vs ++ rest)) at = record { within = s.within; here = s.here ∙ append_assoc (encode code 2 v) (write_values code vs) rest } in
-    let s2 = on bytes (encode code 2 v) (write_values code vs ++ rest) at (2 * per_byte code) (length_encode code 2 v) s1 in
+    let s1 : Stands bytes (encode code 2 v ++ (values_bytes code 2 vs ++ rest)) at = record { within = s.within; here = s.here ∙ append_assoc (encode code 2 v) (values_bytes code 2 vs) rest } in
+    let s2 = on bytes (encode code 2 v) (values_bytes code 2 vs ++ rest) at (2 * per_byte code) (length_encode code 2 v) s1 in
     let more = values_end code bytes rest vs (at + 2 * per_byte code) ok.1 s2 in
-    (more.0, rw (number_back code bytes (write_values code vs ++ rest) at 2 v ok.0 s1) more.1)
+    (more.0, rw (number_back code bytes (values_bytes code 2 vs ++ rest) at 2 v ok.0 s1) more.1)
 
-values_back : (code : Code) (rest vs : List ℕ) → Each (λ v. v < 65536) vs → list_in (number_in code 2) (length vs) (write_values code vs ++ rest) ≡ vs
+values_back : (code : Code) (rest vs : List ℕ) → Each (λ v. v < 65536) vs → list_in (number_in code 2) (length vs) (values_bytes code 2 vs ++ rest) ≡ vs
 values_back code rest [] ok = refl
 values_back code rest (v ∷ vs) ok =
-    let tail = write_values code vs ++ rest in
-    rw (append_assoc (encode code 2 v) (write_values code vs) rest, wire.number_back code 2 v tail ok.0, drop_at (encode code 2 v) tail (2 * per_byte code) (length_encode code 2 v))
+    let tail = values_bytes code 2 vs ++ rest in
+    rw (append_assoc (encode code 2 v) (values_bytes code 2 vs) rest, wire.number_back code 2 v tail ok.0, drop_at (encode code 2 v) tail (2 * per_byte code) (length_encode code 2 v))
     (ap (λ ws. v ∷ ws) (values_back code rest vs ok.1))
 
-pub words_back : (code : Code) (bytes rest : List ℕ) (vs : List ℕ) (at : ℕ) → Each (λ v. v < 65536) vs → Stands bytes (write_values code vs ++ rest) at
+pub words_back : (code : Code) (bytes rest : List ℕ) (vs : List ℕ) (at : ℕ) → Each (λ v. v < 65536) vs → Stands bytes (values_bytes code 2 vs ++ rest) at
     → words_at code bytes at (length vs) ≡ Ok (vs, length vs * (2 * per_byte code))
 words_back code bytes rest vs at ok s =
-    rw (is_present bytes (write_values code vs) rest at (length vs * (2 * per_byte code)) (length_values code vs) s, (values_end code bytes rest vs at ok s).1, s.here, values_back code rest vs ok)
+    rw (is_present bytes (values_bytes code 2 vs) rest at (length vs * (2 * per_byte code)) (length_values code 2 vs) s, (values_end code bytes rest vs at ok s).1, s.here, values_back code rest vs ok)
 
 -- the write data of a batch in bits
 pub bits_back : (code : Code) (bytes rest : List ℕ) (ds : List ℕ) (at : ℕ) → Each (λ d. d < 16) ds → Stands bytes (bits_bytes code ds ++ rest) at

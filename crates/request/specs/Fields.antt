@@ -1,6 +1,7 @@
 -- The fields of a request's data, at their places in the frame.
 -- A field is tested for presence, then for its digits, then for its value.
 use Rattle.std.specs.Prelude.{◌≡◌, ℕ, zero, suc, ◌+◌, ◌*◌, ◌^◌, ◌<◌, ◌≤◌, cond, List, [], ◌∷◌, length, drop, IfOk, Ok, Err, Result, nat_le}
+use Rattle.std.specs.Result.{result_unwrap_or}
 use Rattle.device.specs.declared.types.Device.{Device}
 use Rattle.wire.specs.declared.code.Code.{Code}
 use Rattle.wire.specs.declared.code.FieldFault.{FieldFault}
@@ -84,13 +85,9 @@ words_at code bytes at n =
 abbrev pub half_at : Code → List ℕ → ℕ → ℕ → Result (ℕ × ℕ) Fault
 half_at code xs at i = then (placed (at + i) (half_in code xs i)) (λ d. Ok (d, 1))
 
-abbrev pub or_zero : Result ℕ FieldFault → ℕ
-or_zero (Ok v) = v
-or_zero (Err e) = 0
-
 -- the value of the point with index i, and 0 where it cannot be read
 abbrev pub bit_in : Code → List ℕ → ℕ → ℕ
-bit_in code xs i = or_zero (half_in code xs i)
+bit_in code xs i = result_unwrap_or (half_in code xs i) 0
 
 -- the values of n points from index i on
 abbrev pub bits_in : Code → List ℕ → ℕ → ℕ → List ℕ

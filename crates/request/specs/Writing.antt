@@ -4,6 +4,7 @@ use Rattle.device.specs.declared.types.Device.{Device}
 use Rattle.wire.specs.declared.code.Code.{Code}
 use Rattle.wire.specs.Numbers.{encode}
 use Rattle.wire.specs.Fields.{encode_device, number_limit}
+use Rattle.wire.specs.Series.{values_bytes}
 use Rattle.wire.specs.Points.{bits_bytes}
 use Rattle.request.specs.Requests.{Access, Setting, Asked, read_bits, read_words, write_bits, write_words, random_read, register, monitor, random_bits, random_write}
 use Rattle.request.specs.Verdicts.{chain}
@@ -21,17 +22,12 @@ pub data Field : Type 0 where
   -- points in bits
   halves : List ℕ → Field
 
--- values of two bytes, one behind the other
-abbrev pub write_values : Code → List ℕ → List ℕ
-write_values code [] = []
-write_values code (v ∷ vs) = encode code 2 v ++ write_values code vs
-
 -- what is sent for a field
 abbrev pub write_field : Code → Field → List ℕ
 write_field code (num size v) = encode code size v
 write_field code (pair w d) = encode code 1 w ++ encode code 1 d
 write_field code (dev d i) = encode_device code d i
-write_field code (vals vs) = write_values code vs
+write_field code (vals vs) = values_bytes code 2 vs
 write_field code (halves vs) = bits_bytes code vs
 
 abbrev pub write : Code → List Field → List ℕ

@@ -1,5 +1,6 @@
 -- One word or two points more of a reply's data.
-use Rattle.std.proofs.Common.{◌≡◌, ℕ, zero, suc, ◌+◌, ◌-◌, ◌*◌, ◌/◌, ◌<◌, List, [], ◌∷◌, ◌++◌, length, get_or, drop, sym, refl, ap, ◌∙◌, add-mul, add-one, arith, length-append}
+use Rattle.std.proofs.Common.{◌≡◌, ℕ, zero, suc, ◌+◌, ◌-◌, ◌*◌, ◌/◌, ◌<◌, List, [], ◌∷◌, ◌++◌, length, get_or, drop, sym, refl, ap, ◌∙◌, add-mul, add-one, arith}
+use Rattle.std.proofs.Math.Nat.{suc-mul}
 use Rattle.std.proofs.lemmas.List.{drop_more}
 use lib.Seq.{sets}
 use Rattle.device.specs.declared.types.Device.{Device}
@@ -12,7 +13,7 @@ use Rattle.wire.specs.declared.code.Code.{Code}
 use Rattle.wire.specs.declared.code.Code.TheVariants.{Binary, Ascii}
 use Rattle.wire.specs.Numbers.{per_byte, encode}
 use Rattle.wire.specs.Series.{values_bytes}
-use Rattle.wire.specs.Points.{half_bytes, digit_each, bits_bytes, bits_size}
+use Rattle.wire.specs.Points.{bits_bytes, bits_size}
 use Rattle.wire.proofs.Places.{sets_sets}
 use Rattle.wire.proofs.RoundTrip.{length_encode}
 use Rattle.request.specs.Limits.{points}
@@ -72,18 +73,7 @@ module _ (code : Code) (V : Values) (d : Device) where
       go Binary = omega arith
       go Ascii = omega arith
 
--- how long the data are
-pub length_values : (code : Code) (size : ℕ) (vs : List ℕ) → length (values_bytes code size vs) ≡ length vs * (size * per_byte code)
-length_values code size [] = omega arith
-length_values code size (v ∷ vs) =
-    length-append (encode code size v) (values_bytes code size vs) ∙ (λ i. length_encode code size v i + length_values code size vs i) ∙ sym (more (length vs) (size * per_byte code))
-  where
-    more : (n k : ℕ) → suc n * k ≡ k + n * k
-    more n k = ap (λ m. m * k) (one n) ∙ add-mul 1 n k ∙ ap (λ m. m + n * k) (omega arith)
-      where
-        one : (n : ℕ) → suc n ≡ 1 + n
-        one n = omega arith
-
+-- how many values there are
 pub length_words : (V : Values) (d : Device) (n k : ℕ) → length (words V d n k) ≡ k
 length_words V d n zero = refl
 length_words V d n (suc k) = ap suc (length_words V d (n + points (kind_of d) 1) k)
@@ -91,19 +81,6 @@ length_words V d n (suc k) = ap suc (length_words V d (n + points (kind_of d) 1)
 pub length_bits : (V : Values) (d : Device) (n k : ℕ) → length (bits V d n k) ≡ k
 length_bits V d n zero = refl
 length_bits V d n (suc k) = ap suc (length_bits V d (n + 1) k)
-
-length_half : (vs : List ℕ) → length (half_bytes vs) ≡ (length vs + 1) / 2
-length_half [] = refl
-length_half (a ∷ []) = refl
-length_half (a ∷ b ∷ vs) = omega (arith, length_half vs)
-
-length_each : (vs : List ℕ) → length (digit_each vs) ≡ length vs
-length_each [] = refl
-length_each (v ∷ vs) = ap suc (length_each vs)
-
-pub length_bits_bytes : (code : Code) (vs : List ℕ) → length (bits_bytes code vs) ≡ bits_size code (length vs)
-length_bits_bytes Binary vs = length_half vs
-length_bits_bytes Ascii vs = length_each vs
 
 -- what is read where there is no access
 abbrev pub no_access : Access
@@ -122,10 +99,7 @@ module _ (code : Code) (width : Width) (V : Values) (es : List Access) (i : ℕ)
       ∙ ap (λ l. sets out place (values_bytes code (bytes_of width) (values_of width V (accesses l)))) (sym (drop_more es i no_access below)))
 
   pub left_turn : (k : ℕ) → length (drop i es) * k ≡ k + length (drop (i + 1) es) * k
-  left_turn k = ap (λ l. length l * k) (drop_more es i no_access below) ∙ ap (λ n. n * k) (one (length (drop (i + 1) es))) ∙ add-mul 1 (length (drop (i + 1) es)) k ∙ ap (λ n. n + length (drop (i + 1) es) * k) (omega arith)
-    where
-      one : (n : ℕ) → suc n ≡ 1 + n
-      one n = omega arith
+  left_turn k = ap (λ l. length l * k) (drop_more es i no_access below) ∙ suc-mul (length (drop (i + 1) es)) k ∙ omega arith
 
 pub length_values_of : (width : Width) (V : Values) (as' : List Access) → length (values_of width V (accesses as')) ≡ length as'
 length_values_of width V [] = refl

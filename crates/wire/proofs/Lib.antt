@@ -1,6 +1,6 @@
 pub mod Places
 pub mod Numbers
 pub mod RoundTrip
+pub mod Lengths
 pub mod Turns
-pub mod Rest
 pub mod Runs

@@ -2,6 +2,7 @@
 use Rattle.std.proofs.Common.{◌≡◌, ℕ, zero, suc, ◌+◌, ◌*◌, ◌/◌, ◌%◌, ◌^◌, ◌<◌, ◌≤◌, Bool, true, false, cond, leb, List, [], ◌∷◌, ◌++◌, length, get_or, drop, Ok, Err, Result, refl, ap, ◌∙◌, mod-lt, mod-eq_of_lt, mul_assoc, mul_comm, add-mul, pow-suc, arith, length-append, le-leb}
 use native.Mathlib.Nat.{pow-zero, mod-add-div}
 use lib.Seq.{sets}
+use Rattle.std.specs.Prelude.{ok_or}
 use Rattle.device.specs.declared.types.Device.{Device}
 use Rattle.device.specs.declared.types.Device.TheVariants.{M, SM, L, X, Y, B, D, SD, ZR, W, TS, TN}
 use Rattle.device.specs.declared.types.Notation.{Notation}
@@ -11,9 +12,9 @@ use Rattle.device.proofs.Found.{code_back, symbol_back}
 use Rattle.wire.specs.declared.code.Code.{Code}
 use Rattle.wire.specs.declared.code.Code.TheVariants.{Binary, Ascii}
 use Rattle.wire.specs.declared.code.FieldFault.{FieldFault}
-use Rattle.wire.specs.declared.code.FieldFault.TheVariants.{Missing}
+use Rattle.wire.specs.declared.code.FieldFault.TheVariants.{Missing, Unknown}
 use Rattle.wire.specs.Numbers.{then, per_byte, low_first, low_bytes, base, digits_run, digit_chars, value_of, number_in, encode}
-use Rattle.wire.specs.Fields.{known, device_named, device_number, device_in, encode_device, number_limit}
+use Rattle.wire.specs.Fields.{device_named, device_number, device_in, encode_device, number_limit}
 use Rattle.wire.proofs.Numbers.{base_pos, digit_back, two_a_byte, high_digit}
 use Rattle.wire.proofs.Places.{drop_sets}
 
@@ -87,8 +88,8 @@ length_device Binary d n = refl
 length_device Ascii d n = ap length (symbol_first d (digit_chars (notation_of d) 6 n))
 
 named_back : (code : Code) (d : Device) (n : ℕ) (rest : List ℕ) → device_named code (encode_device code d n ++ rest) ≡ Ok d
-named_back Binary d n rest = ap known (code_back d)
-named_back Ascii d n rest = ap (λ xs. device_named Ascii (xs ++ rest)) (symbol_first d (digit_chars (notation_of d) 6 n)) ∙ ap known (symbol_back d)
+named_back Binary d n rest = ap (λ o. ok_or o Unknown) (code_back d)
+named_back Ascii d n rest = ap (λ xs. device_named Ascii (xs ++ rest)) (symbol_first d (digit_chars (notation_of d) 6 n)) ∙ ap (λ o. ok_or o Unknown) (symbol_back d)
 
 device_number_back : (code : Code) (d : Device) (n : ℕ) (rest : List ℕ) → n < number_limit code d → device_number code d (encode_device code d n ++ rest) ≡ Ok n
 device_number_back Binary d n rest h = ap Ok (low_back 3 n (code_of d ∷ rest) h)

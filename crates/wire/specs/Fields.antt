@@ -1,5 +1,5 @@
 -- A device field on the wire: a device and a number of three bytes.
-use Rattle.std.specs.Prelude.{ℕ, ◌*◌, ◌^◌, cond, List, [], ◌∷◌, ◌++◌, length, drop, Some, None, Ok, Err, Option, Result, nat_le, slice_index}
+use Rattle.std.specs.Prelude.{ℕ, ◌*◌, ◌^◌, cond, List, [], ◌∷◌, ◌++◌, length, drop, Ok, Err, Result, ok_or, nat_le, slice_index}
 use Rattle.device.specs.declared.types.Device.{Device}
 use Rattle.device.specs.Devices.{code_of, symbol_of, notation_of}
 use Rattle.device.specs.Search.{device_by_code, device_by_symbol}
@@ -10,15 +10,10 @@ use Rattle.wire.specs.declared.code.FieldFault.TheVariants.{Missing, Unknown}
 use Rattle.wire.specs.Numbers.{then, per_byte, base, low_first, digits_run, low_bytes}
 pub use Rattle.wire.specs.Numbers.{digit_chars}
 
--- the device that was found, or the fault that there is none
-abbrev pub known : Option Device → Result Device FieldFault
-known (Some d) = Ok d
-known None = Err Unknown
-
--- the device of a field that is all there: in binary by its fourth byte, in ASCII by its first two characters
+-- the device of a field that is all there, in binary by its fourth byte, in ASCII by its first two characters; or the fault that there is none
 abbrev pub device_named : Code → List ℕ → Result Device FieldFault
-device_named Binary xs = known (device_by_code (slice_index xs 3))
-device_named Ascii xs = known (device_by_symbol (slice_index xs 0) (slice_index xs 1))
+device_named Binary xs = ok_or (device_by_code (slice_index xs 3)) Unknown
+device_named Ascii xs = ok_or (device_by_symbol (slice_index xs 0) (slice_index xs 1)) Unknown
 
 -- the number of a field that is all there: in binary three bytes, in ASCII six digits in the device's notation
 abbrev pub device_number : Code → Device → List ℕ → Result ℕ FieldFault

@@ -1,5 +1,5 @@
 -- Points in bits on the wire.
-use Rattle.std.specs.Prelude.{ℕ, ◌+◌, ◌*◌, ◌/◌, ◌%◌, Bool, true, cond, List, [], ◌∷◌, Ok, Result, ◌==◌, slice_index}
+use Rattle.std.specs.Prelude.{ℕ, ◌+◌, ◌*◌, ◌/◌, ◌%◌, Bool, true, cond, List, [], ◌∷◌, map, Ok, Result, ◌==◌, slice_index}
 use Rattle.device.specs.declared.types.Notation.TheVariants.{Hexadecimal}
 use Rattle.wire.specs.declared.code.Code.{Code}
 use Rattle.wire.specs.declared.code.Code.TheVariants.{Binary, Ascii}
@@ -12,15 +12,10 @@ half_bytes [] = []
 half_bytes (a ∷ []) = (16 * a) ∷ []
 half_bytes (a ∷ b ∷ vs) = (16 * a + b) ∷ half_bytes vs
 
--- one digit a point
-abbrev pub digit_each : List ℕ → List ℕ
-digit_each [] = []
-digit_each (v ∷ vs) = hex_char v ∷ digit_each vs
-
--- what is sent for points in bits
+-- what is sent for points in bits: in ASCII one digit a point
 abbrev pub bits_bytes : Code → List ℕ → List ℕ
 bits_bytes Binary vs = half_bytes vs
-bits_bytes Ascii vs = digit_each vs
+bits_bytes Ascii vs = map hex_char vs
 
 -- the wire bytes of n points in bits
 abbrev pub bits_size : Code → ℕ → ℕ

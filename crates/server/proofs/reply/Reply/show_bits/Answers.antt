@@ -1,7 +1,8 @@
 use Rattle.std.proofs.Common.{None, sym, ap, ◌∙◌}
 use Rattle.wire.specs.Points.{bits_bytes, bits_size}
 use Rattle.server.specs.Points.{bits}
-use Rattle.server.proofs.Shows.{length_bits_bytes, length_bits}
+use Rattle.wire.proofs.Lengths.{length_bits_bytes}
+use Rattle.server.proofs.Shows.{length_bits}
 use Rattle.server.proofs.Telling.{told}
 use Rattle.server.proofs.reply.Reply.show_bits.Goals as goal
 

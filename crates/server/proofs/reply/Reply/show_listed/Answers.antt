@@ -9,7 +9,8 @@ use Rattle.server.specs.declared.points.Width.TheVariants.{Word, Double}
 use Rattle.server.specs.Points.{values_of}
 use Rattle.server.specs.Registered.{accesses, doubles_in}
 use Rattle.server.specs.Serves.{Tells}
-use Rattle.server.proofs.Shows.{length_values, length_values_of}
+use Rattle.wire.proofs.Lengths.{length_values}
+use Rattle.server.proofs.Shows.{length_values_of}
 use Rattle.server.proofs.Telling.{told}
 use Rattle.server.proofs.reply.Reply.show_listed.Goals as goal
 

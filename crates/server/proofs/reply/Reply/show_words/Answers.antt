@@ -1,7 +1,8 @@
 use Rattle.std.proofs.Common.{◌*◌, None, sym, ◌∙◌}
 use Rattle.wire.specs.Series.{values_bytes}
 use Rattle.server.specs.Points.{words}
-use Rattle.server.proofs.Shows.{length_values, length_words}
+use Rattle.wire.proofs.Lengths.{length_values}
+use Rattle.server.proofs.Shows.{length_words}
 use Rattle.server.proofs.Telling.{told}
 use Rattle.server.proofs.reply.Reply.show_words.Goals as goal
 
