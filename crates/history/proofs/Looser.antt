@@ -11,7 +11,8 @@ use Rattle.frame.specs.Headers.{tested}
 use Rattle.request.specs.Walks.{Walk, done, number, counts, device, words, bits, at_field, at_device, run, list}
 use Rattle.request.specs.Fields.{number_at, counts_at, device_at, words_at, bits_at}
 use Rattle.request.specs.Limits.{points, within, all_open}
-use Rattle.request.specs.Requests.{Access, Setting, Asked, Command, ReadBits, ReadWords, WriteBits, WriteWords, RandomRead, Register, Monitor, RandomBits, RandomWrite, while_on, command_of, access, setting, bit_setting, walk}
+use Rattle.request.specs.Requests.{Access, Setting, Asked, Command, ReadBits, ReadWords, WriteBits, WriteWords, RandomRead, Register, Monitor, RandomBits, RandomWrite, while_on, command_of}
+use Rattle.request.specs.Judging.{access, setting, bit_setting, walk}
 use Rattle.request.specs.Readings.{judged_by, request_in}
 use Rattle.history.specs.Asks.{largest}
 

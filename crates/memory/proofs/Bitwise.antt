@@ -3,7 +3,7 @@ use Rattle.std.proofs.Common.{◌≡◌, ℕ, zero, suc, ◌-◌, ◌/◌, ◌%�
 use lib.Bits.{bit_and, bit_or, or_step, and_step, or_shr, and_shr}
 use Rattle.std.proofs.lemmas.Nat.{mod-mul-add, mod_below}
 use Rattle.std.proofs.lemmas.Bool.{cases_eq, eq-eqb, ne_eqb, cond-true, cond-false}
-use Rattle.memory.specs.Layout.{bit_at, with_bit}
+use Rattle.memory.specs.Stored.{bit_at, with_bit}
 
 or_bit : (a b k : ℕ) → bit_at (bit_or a b) k ≡ max (bit_at a k) (bit_at b k)
 or_bit a b k =

@@ -10,7 +10,8 @@ use Rattle.device.specs.declared.types.Kind.{Kind}
 use Rattle.device.specs.declared.types.Kind.TheVariants.{Bit, Word}
 use Rattle.device.specs.Devices.{devices, rows, row_of, kind_of, device_at_place}
 use Rattle.memory.specs.Meaning.{extent_limit}
-use Rattle.memory.specs.Layout.{units_for, start, small_below}
+use Rattle.memory.specs.Layout.{units_for, start}
+use Rattle.memory.specs.Making.{small_below}
 use Rattle.memory.specs.declared.layout.Form.{Form}
 use Rattle.memory.specs.declared.layout.Form.TheVariants.{Packed, Image}
 

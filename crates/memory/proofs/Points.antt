@@ -5,7 +5,8 @@ use Rattle.device.specs.declared.types.Device.{Device}
 use Rattle.device.specs.Devices.{kind_of, place_of}
 use Rattle.device.proofs.Places.{place_one}
 use Rattle.memory.specs.Meaning.{value_limit, put, written, write_answer}
-use Rattle.memory.specs.Layout.{start, room, width, extent_in, index_of, point_in, with_point, value_in, stored, units_after, admitted}
+use Rattle.memory.specs.Layout.{start, room, width, extent_in, index_of}
+use Rattle.memory.specs.Stored.{point_in, with_point, value_in, stored, units_after, admitted}
 use Rattle.memory.specs.Kept.{Kept, kept_same}
 use Rattle.memory.specs.declared.layout.Form.{Form}
 use Rattle.memory.specs.declared.refusal.Refusal.{Refusal}

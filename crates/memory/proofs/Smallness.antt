@@ -8,7 +8,8 @@ use Rattle.device.proofs.Places.{place_below, at_place}
 use Rattle.memory.specs.declared.layout.Form.{Form}
 use Rattle.memory.specs.declared.layout.Form.TheVariants.{Packed, Image}
 use Rattle.memory.specs.Meaning.{extent_limit}
-use Rattle.memory.specs.Layout.{Small, small_below, extent_in, start, room}
+use Rattle.memory.specs.Layout.{extent_in, start, room}
+use Rattle.memory.specs.Making.{Small, small_below}
 
 -- whether the extent at a place passes no limit
 abbrev pub is_small : List ℕ → ℕ → Bool

@@ -5,7 +5,8 @@ use Rattle.device.specs.declared.types.Kind.{Kind}
 use Rattle.device.specs.declared.types.Kind.TheVariants.{Bit, Word}
 use Rattle.memory.specs.Meaning.{value_limit}
 use Rattle.memory.specs.Kept.{cells, cell, Holds}
-use Rattle.memory.specs.Layout.{unit_of, width, bit_at, part_of, point_in, with_point}
+use Rattle.memory.specs.Layout.{unit_of, width}
+use Rattle.memory.specs.Stored.{bit_at, part_of, point_in, with_point}
 use Rattle.memory.specs.declared.layout.Form.{Form}
 use Rattle.memory.specs.declared.layout.Form.TheVariants.{Packed, Image}
 use Rattle.memory.proofs.Bitwise.{bit_own, bit_other}

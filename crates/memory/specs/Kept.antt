@@ -7,7 +7,9 @@ use Rattle.device.specs.declared.types.Kind.{Kind}
 use Rattle.device.specs.declared.types.Kind.TheVariants.{Bit, Word}
 use Rattle.device.specs.Devices.{kind_of}
 use Rattle.memory.specs.Meaning.{Sound}
-use Rattle.memory.specs.Layout.{extent_in, index_of, bit_at, point_in, stored, Small}
+use Rattle.memory.specs.Layout.{extent_in, index_of}
+use Rattle.memory.specs.Making.{Small}
+use Rattle.memory.specs.Stored.{bit_at, point_in, stored}
 use Rattle.memory.specs.declared.layout.Form.{Form}
 use Rattle.memory.specs.declared.layout.Form.TheVariants.{Packed, Image}
 

@@ -1,5 +1,7 @@
 pub mod Refusals
 pub mod Meaning
 pub mod Layout
+pub mod Stored
+pub mod Making
 pub mod Kept
 pub mod Locks

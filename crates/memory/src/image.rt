@@ -1,6 +1,8 @@
 // A byte image: the points in the caller's lent bytes.
 ghost use Rattle.std.specs.Prelude.{◌≡◌, ◌+◌, ◌*◌, ◌<◌, ◌≤◌, length, refl};
-ghost use Rattle.memory.specs.Layout.{width, byte_part, needed, making};
+ghost use Rattle.memory.specs.Layout.{width};
+ghost use Rattle.memory.specs.Making.{needed, making};
+ghost use Rattle.memory.specs.Stored.{byte_part};
 ghost use Rattle.memory.specs.declared.layout.Form.TheVariants.{Image};
 
 use crate::layout::{Form, making, units_needed};

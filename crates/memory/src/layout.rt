@@ -3,7 +3,9 @@
 ghost use Rattle.std.specs.Prelude.{◌≡◌, ◌+◌, ◌*◌, ◌^◌, ◌<◌, ◌≤◌, true, false, nat_le};
 ghost use Rattle.device.specs.Devices.{kind_of, device_at_place};
 ghost use Rattle.memory.specs.Meaning.{extent_limit};
-ghost use Rattle.memory.specs.Layout.{units_for, unit_of, width, start, room, extent_in, index_of, Small, small_below, is_fit, needed, making, made_of, admitted};
+ghost use Rattle.memory.specs.Layout.{units_for, unit_of, width, start, room, extent_in, index_of};
+ghost use Rattle.memory.specs.Making.{Small, small_below, is_fit, needed, making, made_of};
+ghost use Rattle.memory.specs.Stored.{admitted};
 
 use crate::refusal::Refusal;
 use device::{DEVICES, Device, Kind};

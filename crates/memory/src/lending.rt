@@ -1,7 +1,8 @@
 // What the lender finds in its words or bytes once the memory over them is gone.
 ghost use Rattle.std.specs.Prelude.{◌≡◌, length};
 ghost use Rattle.memory.specs.Meaning.{write_answer};
-ghost use Rattle.memory.specs.Layout.{stored, units_after, made_of};
+ghost use Rattle.memory.specs.Making.{made_of};
+ghost use Rattle.memory.specs.Stored.{stored, units_after};
 ghost use Rattle.memory.specs.declared.layout.Form.TheVariants.{Packed, Image};
 
 use crate::refusal::Refusal;

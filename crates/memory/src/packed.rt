@@ -1,6 +1,7 @@
 // Packed tables: the points in the caller's lent 16-bit words.
 ghost use Rattle.std.specs.Prelude.{◌≡◌, ◌^◌, ◌<◌, refl};
-ghost use Rattle.memory.specs.Layout.{with_bit, with_part, part_of, needed, making};
+ghost use Rattle.memory.specs.Making.{needed, making};
+ghost use Rattle.memory.specs.Stored.{with_bit, with_part, part_of};
 ghost use Rattle.memory.specs.declared.layout.Form.TheVariants.{Packed};
 
 use crate::layout::{Form, making, units_needed};

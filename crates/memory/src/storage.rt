@@ -2,7 +2,9 @@
 ghost use Rattle.std.specs.Prelude.{◌≡◌, ℕ, ◌+◌, ◌<◌, ◌≤◌, List, length};
 ghost use Rattle.device.specs.Devices.{kind_of};
 ghost use Rattle.memory.specs.Meaning.{value_limit, write_answer, written};
-ghost use Rattle.memory.specs.Layout.{width, point_in, with_point, stored, units_after, Small, room, made_of};
+ghost use Rattle.memory.specs.Layout.{width, room};
+ghost use Rattle.memory.specs.Making.{Small, made_of};
+ghost use Rattle.memory.specs.Stored.{point_in, with_point, stored, units_after};
 ghost use Rattle.memory.specs.Kept.{Kept, stored_sound};
 ghost use Rattle.memory.specs.declared.layout.Form.{Form as Held};
 

@@ -14,7 +14,8 @@ use Rattle.frame.specs.declared.fault.Fault.{Fault}
 use Rattle.frame.specs.declared.header.Header.{Header}
 use Rattle.frame.specs.Faults.{fault}
 use Rattle.request.specs.Walks.{Walk, done, number, counts, device, words, bits, at_field, at_device, run, list}
-use Rattle.request.specs.Requests.{Access, Setting, Asked, read_bits, read_words, write_bits, write_words, random_read, register, monitor, random_bits, random_write, Command, command_of, access, setting, bit_setting, walk}
+use Rattle.request.specs.Requests.{Access, Setting, Asked, read_bits, read_words, write_bits, write_words, random_read, register, monitor, random_bits, random_write, Command, command_of}
+use Rattle.request.specs.Judging.{access, setting, bit_setting, walk}
 use Rattle.request.specs.Verdicts.{command, Test, judge, chain, access_tests, setting_tests, bit_setting_tests, tests, verdict, forget}
 use Rattle.request.specs.Writing.{Field, num, pair, dev, vals, halves, write, access_fields, setting_fields, fields, writing, FieldFits, Each, FitsBoth}
 use Rattle.request.specs.Readings.{judged_by, request_in}

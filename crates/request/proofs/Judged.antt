@@ -10,7 +10,8 @@ use Rattle.frame.specs.Faults.{fault}
 use Rattle.request.specs.Fields.{number_at, counts_at, list_end, list_in, ends}
 use Rattle.request.specs.Limits.{random_ok, random_bits_ok, random_write_ok}
 use Rattle.request.specs.Walks.{Walk, done, run, list}
-use Rattle.request.specs.Requests.{Asked, random_read, register, random_bits, random_write, RandomRead, RandomBits, RandomWrite, access, setting, bit_setting, judged}
+use Rattle.request.specs.Requests.{Asked, random_read, register, random_bits, random_write, RandomRead, RandomBits, RandomWrite}
+use Rattle.request.specs.Judging.{access, setting, bit_setting, judged}
 use Rattle.request.specs.Requests.{Register as Registering}
 use Rattle.request.specs.Entries.{access_at, access_in, setting_at, setting_in, bit_setting_at}
 use Rattle.request.specs.Readings.{Held, held_random_read, held_register, held_random_write, asked, asked_of, Whole}

@@ -14,7 +14,8 @@ use Rattle.frame.specs.Faults.{fault}
 use Rattle.request.specs.Fields.{placed, value_at}
 use Rattle.request.specs.Limits.{is_bit, within, all_open, words_within, words_open}
 use Rattle.request.specs.Walks.{Walk, run}
-use Rattle.request.specs.Requests.{Access, Setting, access, setting, bit_setting}
+use Rattle.request.specs.Requests.{Access, Setting}
+use Rattle.request.specs.Judging.{access, setting, bit_setting}
 use Rattle.request.specs.Entries.{access_at, access_in, setting_at, setting_in, bit_setting_at}
 use Rattle.request.proofs.Lists.{Entry}
 

@@ -10,7 +10,8 @@ use Rattle.frame.specs.declared.fault.Fault.{Fault}
 use Rattle.frame.specs.Faults.{fault}
 use Rattle.request.specs.Fields.{number_at, counts_at, device_at, present, value_at, list_end, list_in, words_at, half_at, bits_in, bits_at}
 use Rattle.request.specs.Walks.{Walk, done, number, counts, device, words, bits, at_field, at_device, run, list}
-use Rattle.request.specs.Requests.{Access, Setting, Asked, Command, ReadBits, ReadWords, WriteBits, WriteWords, RandomRead, Register, Monitor, RandomBits, RandomWrite, access, setting, bit_setting, walk}
+use Rattle.request.specs.Requests.{Access, Setting, Asked, Command, ReadBits, ReadWords, WriteBits, WriteWords, RandomRead, Register, Monitor, RandomBits, RandomWrite}
+use Rattle.request.specs.Judging.{access, setting, bit_setting, walk}
 use Rattle.request.specs.Verdicts.{Test, judge, chain, access_tests, setting_tests, bit_setting_tests, tests, verdict}
 use Rattle.request.specs.Writing.{Each}
 use Rattle.device.specs.Devices.{kind_of}

@@ -2,6 +2,7 @@ pub mod Fields
 pub mod Walks
 pub mod Limits
 pub mod Requests
+pub mod Judging
 pub mod Entries
 pub mod Rows
 pub mod Readings

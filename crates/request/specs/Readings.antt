@@ -12,7 +12,8 @@ use Rattle.frame.specs.Faults.{fault}
 use Rattle.request.specs.declared.types.Request.{Request}
 use Rattle.request.specs.declared.types.Request.TheVariants.{ReadBits, ReadWords, WriteBits, WriteWords, ReadRandom, Register, Monitor, WriteRandomBits, WriteRandom}
 use Rattle.request.specs.Fields.{list_in, bits_in}
-use Rattle.request.specs.Requests.{Asked, read_bits, read_words, write_bits, write_words, random_read, register, monitor, random_bits, random_write, Command, command_of, judged}
+use Rattle.request.specs.Requests.{Asked, read_bits, read_words, write_bits, write_words, random_read, register, monitor, random_bits, random_write, Command, command_of}
+use Rattle.request.specs.Judging.{judged}
 use Rattle.request.specs.Entries.{access_in, setting_in}
 
 -- a request that was read, with the bytes that it holds of the frame and their place

@@ -7,7 +7,8 @@ ghost use Rattle.wire.specs.Points.{bits_size, half_in};
 ghost use Rattle.request.specs.Fields.{placed, value_at, half_at, list_end, list_in, bits_in};
 ghost use Rattle.request.specs.Limits.{all_bits};
 ghost use Rattle.request.specs.Rows.{IsBitRow, IsWordRow};
-ghost use Rattle.request.specs.Requests.{ReadBits, ReadWords, WriteBits, WriteWords, judged};
+ghost use Rattle.request.specs.Requests.{ReadBits, ReadWords, WriteBits, WriteWords};
+ghost use Rattle.request.specs.Judging.{judged};
 ghost use Rattle.request.specs.Readings.{held, said, Whole, Stands};
 
 use crate::entries::bit_at;

@@ -1,6 +1,6 @@
 // Which command a frame carries, and the reader of its data.
 ghost use Rattle.std.specs.Prelude.{◌≡◌, ◌≤◌, length, IfOk};
-ghost use Rattle.request.specs.Requests.{judged};
+ghost use Rattle.request.specs.Judging.{judged};
 ghost use Rattle.request.specs.Requests.{Monitor as Monitoring};
 ghost use Rattle.request.specs.Readings.{held, said, Whole, Stands, request_in};
 ghost use Rattle.request.specs.Laws.{Alike, Passed, Bounded};

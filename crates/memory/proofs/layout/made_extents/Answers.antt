@@ -1,6 +1,7 @@
 use Rattle.std.proofs.Common.{leb, sym, arith}
 use Rattle.std.proofs.lemmas.Bool.{and_parts}
-use Rattle.memory.specs.Layout.{small_below, room}
+use Rattle.memory.specs.Layout.{room}
+use Rattle.memory.specs.Making.{small_below}
 use Rattle.memory.proofs.Smallness.{small_each, none_room}
 use Rattle.memory.proofs.layout.made_extents.Goals as goal
 

@@ -1,6 +1,7 @@
 use Rattle.std.proofs.Common.{◌≡◌, Ok, ℕ, refl, ap, ◌∙◌, arith}
 use Rattle.device.specs.Devices.{kind_of}
-use Rattle.memory.specs.Layout.{index_of, with_point, extent_in, admitted}
+use Rattle.memory.specs.Layout.{index_of, extent_in}
+use Rattle.memory.specs.Stored.{with_point, admitted}
 use Rattle.memory.proofs.Points.{went, wrote_meaning, wrote_kept}
 use Rattle.memory.proofs.storage.StorageWritableMemory.write.Goals as goal
 
