@@ -107,6 +107,7 @@ pub fn replay<M: WritableMemory>(
     ensures kept { KeptTo (state (M.ReadableMemory.means server.old.memory) server.old.settings.write_flag None (registered server.old.registration)) (take (vec_len result.outcomes) (moves calls.now)) (tellings result.outcomes.items) (state (M.ReadableMemory.means server.new.memory) server.old.settings.write_flag None (registered server.new.registration)) }
     ensures onward { KeptOn (state (M.ReadableMemory.means server.old.memory) server.old.settings.write_flag None (registered server.old.registration)) (take (vec_len result.outcomes) (moves calls.now)) (tellings result.outcomes.items) (state (M.ReadableMemory.means server.new.memory) server.old.settings.write_flag None (registered server.new.registration)) }
     ensures whole { is_ok result.end ≡ true → vec_len result.outcomes ≡ length calls.now }
+    ensures want { is_ok result.end ≡ false → 0 < length calls.now → vec_len result.outcomes < length calls.now }
 {
     match Vec::with_capacity(heap, calls.len()) {
         Ok(mut outcomes) => {
