@@ -4,7 +4,7 @@ use Rattle.std.proofs.Math.Seq.{take-length}
 use Rattle.std.proofs.lemmas.List.{drop_more}
 use Rattle.std.proofs.lemmas.Bool.Decides.{nat_tests}
 use Rattle.wire.specs.Numbers.{hex_char}
-use Rattle.bench.specs.Hex.{digit_value, joined, byte_value, before, bytes_in, byte_text, bytes_text, halves}
+use Rattle.bench.specs.Hex.{digit_value, joined, byte_value, before, bytes_in, pairs, byte_text, bytes_text, halves}
 
 -- bytes that are read already before those that are still to be read
 abbrev pub ahead : List ℕ → Option (List ℕ) → Option (List ℕ)
@@ -34,6 +34,14 @@ turn_read xs items (a ∷ []) h inv = grind arith
 turn_read xs items (a ∷ b ∷ rest) h inv =
     let e : suc (suc (length rest)) - 2 ≡ length rest = omega arith in
     inv ∙ ap (λ ys. ahead items (before (byte_value a b) (bytes_in ys))) (sym (ap (λ n. take n rest) e ∙ take-length rest))
+
+-- one turn of reading words
+pub turn_pairs : (xs items rest : List ℕ) → 2 ≤ length rest → pairs xs ≡ ahead items (pairs rest) → pairs xs ≡ ahead items (before (Some (get_or rest 0 0 * 256 + get_or rest 1 0)) (pairs (take (length rest - 2) (drop 2 rest))))
+turn_pairs xs items [] h inv = grind arith
+turn_pairs xs items (a ∷ []) h inv = grind arith
+turn_pairs xs items (a ∷ b ∷ rest) h inv =
+    let e : suc (suc (length rest)) - 2 ≡ length rest = omega arith in
+    inv ∙ ap (λ ys. ahead items (before (Some (a * 256 + b)) (pairs ys))) (sym (ap (λ n. take n rest) e ∙ take-length rest))
 
 -- a byte that was written reads as itself
 pub digit_back : (d : ℕ) → d < 16 → digit_value (hex_char d) ≡ Some d

@@ -14,3 +14,11 @@ with_digits v (c ∷ cs) = option_and_then (λ n. with_digits n cs) (with_digit 
 abbrev pub decimal_in : List ℕ → Option ℕ
 decimal_in [] = None
 decimal_in (c ∷ cs) = with_digits 0 (c ∷ cs)
+
+-- a number where it is at most m
+abbrev pub up_to : ℕ → Option ℕ → Option ℕ
+up_to m (Some v) = cond (nat_le v m) (Some v) None
+up_to m None = None
+
+abbrev pub decimal_up_to : ℕ → List ℕ → Option ℕ
+decimal_up_to m cs = up_to m (decimal_in cs)

@@ -1,5 +1,5 @@
 -- Bytes and words in hexadecimal digits.
-use Rattle.std.specs.Prelude.{ℕ, ◌+◌, ◌-◌, ◌*◌, ◌/◌, ◌%◌, cond, ◌&&◌, List, [], ◌∷◌, ◌++◌, Some, None, Option, nat_le}
+use Rattle.std.specs.Prelude.{ℕ, ◌+◌, ◌-◌, ◌*◌, ◌/◌, ◌%◌, cond, ◌&&◌, List, [], ◌∷◌, ◌++◌, Some, None, Option, option_and_then, ◌==◌, nat_le}
 use Rattle.wire.specs.Numbers.{hex_value, hex_char}
 
 -- the value of a digit, its letters in either case
@@ -26,6 +26,22 @@ abbrev pub bytes_in : List ℕ → Option (List ℕ)
 bytes_in [] = Some []
 bytes_in (a ∷ []) = None
 bytes_in (a ∷ b ∷ xs) = before (byte_value a b) (bytes_in xs)
+
+-- the words of bytes, the high byte first; none where a byte stands alone
+abbrev pub pairs : List ℕ → Option (List ℕ)
+pairs [] = Some []
+pairs (h ∷ []) = None
+pairs (h ∷ l ∷ bs) = before (Some (h * 256 + l)) (pairs bs)
+
+-- the words of a run of digits
+abbrev pub words_in : List ℕ → Option (List ℕ)
+words_in xs = option_and_then pairs (bytes_in xs)
+
+-- the digits that a word gives, with a dash (45) for none; an empty word gives nothing
+abbrev pub digits_of : List ℕ → Option (List ℕ)
+digits_of [] = None
+digits_of (c ∷ []) = Some (cond (c == 45) [] (c ∷ []))
+digits_of (c ∷ d ∷ cs) = Some (c ∷ d ∷ cs)
 
 -- the two digits of a byte
 abbrev pub byte_text : ℕ → List ℕ

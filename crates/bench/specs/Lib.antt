@@ -2,3 +2,5 @@ pub mod Hex
 pub mod Symbols
 pub mod Decimals
 pub mod Names
+pub mod Widths
+pub mod Blanks

@@ -1,8 +1,8 @@
 // Bytes and words as hexadecimal digits, and back.
-ghost use Rattle.std.specs.Prelude.{◌≡◌, ◌<◌, [], ◌∷◌, ◌++◌, IfSome, IfOk, Some, None, string_bytes, MatchResult, OnOk};
+ghost use Rattle.std.specs.Prelude.{◌≡◌, ◌≢◌, ◌<◌, [], ◌∷◌, ◌++◌, IfSome, IfOk, Some, None, string_bytes, MatchResult, OnOk};
 ghost use Rattle.wire.specs.Numbers.{hex_char};
-ghost use Rattle.bench.specs.Hex.{digit_value, byte_value, bytes_in, byte_text, bytes_text, halves};
-ghost use Rattle.bench.specs.declared.expected.Expected.TheVariants.{Hex};
+ghost use Rattle.bench.specs.Hex.{digit_value, byte_value, bytes_in, pairs, words_in, byte_text, bytes_text, halves};
+ghost use Rattle.bench.specs.declared.expected.Expected.TheVariants.{Memory};
 
 use crate::expected::Expected;
 use std::alloc::{AllocError, Global};
@@ -28,7 +28,7 @@ fn byte_of(high: u8, low: u8) -> Option<u8>
 
 // The bytes of a run of digits, two a byte.
 pub fn read_bytes(heap: Global, text: &[u8]) -> Result<Vec<u8>, Expected>
-    ensures { MatchResult result (λ v. bytes_in text.now ≡ Some v.items) (λ e. e ≡ Hex → bytes_in text.now ≡ None) }
+    ensures { MatchResult result (λ v. bytes_in text.now ≡ Some v.items) (λ e. e ≢ Memory → bytes_in text.now ≡ None) }
 {
     if text.len() % 2 == 1 {
         return Err(Expected::Hex);
@@ -47,18 +47,29 @@ pub fn read_bytes(heap: Global, text: &[u8]) -> Result<Vec<u8>, Expected>
     }
 }
 
-// The words of a run of digits, four a word, the highest first.
-pub fn read_words(heap: Global, text: &[u8]) -> Result<Vec<u16>, Expected> {
-    let bytes = read_bytes(heap, text)?;
-    let pairs = bytes.as_slice().chunks_exact(2);
-    if !pairs.remainder().is_empty() {
-        return Err(Expected::Words);
-    }
+// The words of bytes, two a word, the high one first.
+fn paired(heap: Global, bytes: &[u8]) -> Result<Vec<u16>, Expected>
+    ensures { MatchResult result (λ v. pairs bytes.now ≡ Some v.items) (λ e. e ≢ Memory → pairs bytes.now ≡ None) }
+{
     let mut words = Vec::new(heap);
-    for pair in pairs {
-        words.push(u16::from_be_bytes([pair[0], pair[1]]))?;
+    let mut rest = bytes;
+    // By pattern, as the bytes above.
+    while let [high, low, behind @ ..] = rest {
+        words.push(u16::from_be_bytes([*high, *low]))?;
+        rest = behind;
     }
-    Ok(words)
+    match rest {
+        [] => Ok(words),
+        _ => Err(Expected::Words),
+    }
+}
+
+// The words of a run of digits, four a word, the highest first.
+pub fn read_words(heap: Global, text: &[u8]) -> Result<Vec<u16>, Expected>
+    ensures { MatchResult result (λ v. words_in text.now ≡ Some v.items) (λ e. e ≢ Memory → words_in text.now ≡ None) }
+{
+    let bytes = read_bytes(heap, text)?;
+    paired(heap, bytes.as_slice())
 }
 
 // Adds a digit to a text.

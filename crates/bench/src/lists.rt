@@ -1,6 +1,6 @@
 // The lists of accesses that a request carries, in plain words.
 use crate::coded::Coded;
-use crate::reading::{Reading, plural, tell_comma, tell_more, tell_unread};
+use crate::reading::{Reading, plural, tell_comma, tell_more, tell_unread, told};
 use crate::width::Width;
 use crate::words::Point;
 use device::{Device, Kind};
@@ -59,11 +59,6 @@ impl List {
 
     fn total(self) -> u32 {
         u32::from(self.units) + u32::from(self.doubles)
-    }
-
-    // How many of its accesses are told: the first 32 at most.
-    fn told(self) -> u32 {
-        self.total().min(32)
     }
 
     // What the access of an index reaches.
@@ -160,7 +155,7 @@ impl Listed<'_> {
         let list = self.list;
         let mut at = list.at;
         // The index says what an access reaches, and its field stands where the one before ends: a chain would have to carry both.
-        for i in 0..list.told() {
+        for i in 0..told(list.total()) {
             let Some(access) = Access::read(self.frame, at, list.width(i)) else {
                 return tell_unread(rt);
             };

@@ -1,6 +1,8 @@
 // Decimal numbers of a script. Read by hand: `from_str_radix` takes a plus sign too, and a str, while a script is bytes.
-ghost use Rattle.std.specs.Prelude.{◌≡◌};
-ghost use Rattle.bench.specs.Decimals.{with_digit, with_digits, decimal_in};
+ghost use Rattle.std.specs.Prelude.{◌≡◌, Some, None, MatchResult};
+ghost use Rattle.std.specs.Option.{ok_or};
+ghost use Rattle.bench.specs.Decimals.{with_digit, with_digits, decimal_in, decimal_up_to};
+ghost use Rattle.bench.specs.declared.expected.Expected.TheVariants.{Number, Value, Space};
 
 use crate::expected::Expected;
 use crate::size::SpaceSize;
@@ -39,19 +41,25 @@ fn decimal(word: &[u8]) -> Option<u32>
 }
 
 // A number below 2^32.
-pub fn read_number(word: &[u8]) -> Result<u32, Expected> {
+pub fn read_number(word: &[u8]) -> Result<u32, Expected>
+    ensures { result ≡ ok_or (decimal_in word.now) Number }
+{
     decimal(word).ok_or(Expected::Number)
 }
 
 // The value of a point.
-pub fn read_value(word: &[u8]) -> Result<u16, Expected> {
+pub fn read_value(word: &[u8]) -> Result<u16, Expected>
+    ensures { result ≡ ok_or (decimal_up_to 65535 word.now) Value }
+{
     decimal(word)
         .and_then(|value| u16::try_from(value).ok())
         .ok_or(Expected::Value)
 }
 
 // The size of a reply space.
-pub fn read_space(word: &[u8]) -> Result<SpaceSize, Expected> {
+pub fn read_space(word: &[u8]) -> Result<SpaceSize, Expected>
+    ensures { MatchResult result (λ s. decimal_up_to 65536 word.now ≡ Some s.bytes) (λ e. (e ≡ Space) × (decimal_up_to 65536 word.now ≡ None)) }
+{
     // A guard and no filter: the size's own fact is proved from it.
     match decimal(word) {
         Some(bytes) if bytes <= 65536 => Ok(SpaceSize {

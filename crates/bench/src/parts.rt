@@ -1,8 +1,10 @@
 // The parts that several lines of a script have.
-ghost use Rattle.std.specs.Prelude.{◌≡◌};
+ghost use Rattle.std.specs.Prelude.{◌≡◌, Some, None, MatchOption, MatchResult, option_and_then, ◌≢◌};
 ghost use Rattle.std.specs.Option.{ok_or};
 ghost use Rattle.bench.specs.Symbols.{named_device};
-ghost use Rattle.bench.specs.declared.expected.Expected.TheVariants.{Symbol};
+ghost use Rattle.bench.specs.Names.{code_text};
+ghost use Rattle.bench.specs.Hex.{bytes_in, words_in, digits_of};
+ghost use Rattle.bench.specs.declared.expected.Expected.TheVariants.{Symbol, Code as NoCode, Memory};
 
 use crate::cutting::Words;
 use crate::expected::Expected;
@@ -39,7 +41,9 @@ pub fn read_point(words: &mut Words<'_>) -> Result<Point, Expected> {
 }
 
 // ascii, or binary
-pub fn read_code(word: &[u8]) -> Result<Code, Expected> {
+pub fn read_code(word: &[u8]) -> Result<Code, Expected>
+    ensures { MatchResult result (λ code. word.now ≡ code_text code) (λ e. (e ≡ NoCode) × ((code : Code) → word.now ≢ code_text code)) }
+{
     match word {
         b"ascii" => Ok(Code::Ascii),
         b"binary" => Ok(Code::Binary),
@@ -47,28 +51,27 @@ pub fn read_code(word: &[u8]) -> Result<Code, Expected> {
     }
 }
 
-// What a word of digits says, with - for nothing; an empty word says nothing that was expected.
-fn read_digits<T: Drop, F: FnOnce(Global, &[u8]) -> Result<Vec<T>, Expected>>(
-    heap: Global,
-    word: &[u8],
-    expected: Expected,
-    read: F,
-) -> Result<Vec<T>, Expected>
-    requires { F.IsAlwaysCallable read }
+// The digits of a word, with - for none; an empty word says nothing.
+fn digits_of(word: &[u8]) -> Option<&[u8]>
+    ensures { MatchOption result (digits_of word.now ≡ None) (λ digits. digits_of word.now ≡ Some digits.now) }
 {
     match word {
-        [] => Err(expected),
-        b"-" => Ok(Vec::new(heap)),
-        _ => read(heap, word),
+        [] => None,
+        b"-" => Some(&[]),
+        _ => Some(word),
     }
 }
 
-// Bytes in hexadecimal digits, with - for none; below, words.
-pub fn read_hex(heap: Global, word: &[u8]) -> Result<Vec<u8>, Expected> {
-    read_digits(heap, word, Expected::Hex, read_bytes)
+// Bytes in hexadecimal digits, with - for none.
+pub fn read_hex(heap: Global, word: &[u8]) -> Result<Vec<u8>, Expected>
+    ensures { MatchResult result (λ v. option_and_then bytes_in (digits_of word.now) ≡ Some v.items) (λ e. e ≢ Memory → option_and_then bytes_in (digits_of word.now) ≡ None) }
+{
+    read_bytes(heap, digits_of(word).ok_or(Expected::Hex)?)
 }
 
 // Words in hexadecimal digits, with - for none.
-pub fn read_hex_words(heap: Global, word: &[u8]) -> Result<Vec<u16>, Expected> {
-    read_digits(heap, word, Expected::Words, read_words)
+pub fn read_hex_words(heap: Global, word: &[u8]) -> Result<Vec<u16>, Expected>
+    ensures { MatchResult result (λ v. option_and_then words_in (digits_of word.now) ≡ Some v.items) (λ e. e ≢ Memory → option_and_then words_in (digits_of word.now) ≡ None) }
+{
+    read_words(heap, digits_of(word).ok_or(Expected::Words)?)
 }

@@ -1,4 +1,6 @@
 // Values of points in plain words.
+ghost use Rattle.std.specs.Prelude.{◌≡◌, cond, nat_le};
+
 use crate::width::Width;
 use crate::words::{Point, Value};
 use device::Kind;
@@ -78,10 +80,17 @@ pub fn tell_comma(rt: &HostRuntime, index: u32) -> io::Result<()> {
     Ok(())
 }
 
-// Tells how many values were not told: of a long row or list the first 32 are.
+// How many of the values of a row or a list are told: the first 32 at most.
+pub fn told(count: u32) -> u32
+    ensures { result ≡ cond (nat_le count 32) count 32 }
+{
+    count.min(32)
+}
+
+// Tells how many values were not told.
 pub fn tell_more(rt: &HostRuntime, count: u32) -> io::Result<()> {
-    if count > 32 {
-        let more = count - 32;
+    let more = count - told(count);
+    if more > 0 {
         return print!(rt; ", and {more} more");
     }
     Ok(())

@@ -2,7 +2,7 @@
 ghost use Rattle.std.specs.Prelude.{◌^◌, ◌<◌, ◌≤◌};
 
 use crate::coded::Coded;
-use crate::reading::{Reading, plural, tell_comma, tell_more, tell_unread};
+use crate::reading::{Reading, plural, tell_comma, tell_more, tell_unread, told};
 use crate::width::Width;
 use crate::words::Point;
 use device::{Device, Kind};
@@ -32,13 +32,6 @@ impl Row {
             count,
             next,
         })
-    }
-
-    // How many of its values are told: the first 32 at most.
-    fn told(self) -> u32
-        ensures { result ≤ 32 }
-    {
-        u32::from(self.count).min(32)
     }
 
     // How many points one of its values has.
@@ -83,7 +76,7 @@ impl fmt::Display for Row {
 pub fn tell_row(rt: &HostRuntime, row: Row, data: Coded<'_>) -> io::Result<()> {
     let mut at = 0;
     // The index gives the point, and a field stands where the one before ends: a chain would have to carry both.
-    for i in 0..row.told() {
+    for i in 0..told(u32::from(row.count)) {
         let Some((value, next)) = row.value(data, i, at) else {
             return tell_unread(rt);
         };

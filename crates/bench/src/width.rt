@@ -1,5 +1,6 @@
 // How much an access reaches. The server has such an enum of its own, which is not public.
-ghost use Rattle.std.specs.Prelude.{◌≤◌};
+ghost use Rattle.std.specs.Prelude.{◌≡◌, ◌≤◌};
+ghost use Rattle.bench.specs.Widths.{sent_bytes};
 
 use std::fmt;
 
@@ -13,7 +14,8 @@ pub enum Width {
 
 impl Width {
     pub fn bytes(self) -> usize
-        ensures { result ≤ 4 }
+        ensures value { result ≡ sent_bytes self }
+        ensures few { result ≤ 4 }
     {
         self as usize
     }
