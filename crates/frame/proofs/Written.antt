@@ -122,10 +122,12 @@ pub take_request : (code : Code) (f : Front) (c s : ℕ) (ys rest : List ℕ) �
 take_request code f c s ys rest = take_at (request_bytes code f c s ys) rest (header_of code f c s (length ys)).size (length_request code f c s ys)
 
 pub taken_up : (code : Code) (space : ℕ) (xs : List ℕ) → TakenUp code space xs (tested code space xs)
-taken_up code space xs = record { back = λ f c s ys rest fits hc hs short room is.
-    let s0 : Stands code xs (ys ++ rest) (front_numbers f.form f (6 * per_byte code + length ys) c s) 0 = record { here = is ∙ append_assoc (front_bytes code f c s (length ys)) ys rest } in
-    let long : length xs ≡ length (request_bytes code f c s ys) + length rest = ap length is ∙ length-append (request_bytes code f c s ys) rest in
-    by_form f fits f.form space (6 * per_byte code + length ys) c s s0 hc hs (omega arith) short room (omega (arith, long, length_request code f c s ys)) }
+taken_up code space xs = record {
+  back = λ f c s ys rest fits hc hs short room is.
+      let s0 : Stands code xs (ys ++ rest) (front_numbers f.form f (6 * per_byte code + length ys) c s) 0 = record { here = is ∙ append_assoc (front_bytes code f c s (length ys)) ys rest } in
+      let long : length xs ≡ length (request_bytes code f c s ys) + length rest = ap length is ∙ length-append (request_bytes code f c s ys) rest in
+      by_form f fits f.form space (6 * per_byte code + length ys) c s s0 hc hs (omega arith) short room (omega (arith, long, length_request code f c s ys));
+}
 
 pub so_taken_up : (code : Code) (space : ℕ) (xs : List ℕ) (r : Result Header Fault) → r ≡ tested code space xs → TakenUp code space xs r
 so_taken_up code space xs r e = subst (TakenUp code space xs) (sym e) (taken_up code space xs)

@@ -12,7 +12,7 @@ use Rattle.request.specs.Requests.{Asked, random_read, monitor}
 use Rattle.server.specs.Points.{Values}
 use Rattle.server.specs.Registered.{Listed}
 use Rattle.server.specs.Answers.{Data, accepted as answered, refused}
-use Rattle.server.specs.Serves.{Served, done, shown as shown-list, finished}
+use Rattle.server.specs.Serves.{Served, done, shown_list, finished}
 use Rattle.server.specs.Histories.{Move, frame, setting, opening, ending, Shown, State, at_frame, opened, ended, step, answer, outcome, shown, final, Ran}
 use Rattle.history.specs.Asks.{asked_in, sent, list_sent, shows, accepted, by_header, reply_to}
 use Rattle.history.specs.Latest.{given, latest, by_history, latest_list, call_at, outcome_at, Replied, Draws, LatestWins, Monitoring, LatestShown, KeptTo, KeptOn}
@@ -132,7 +132,7 @@ Monitored (Some l) V code xs space o =
 monitors : (code : Code) (xs space : List ℕ) (m : Meaning) (g : Option Listed) (q : Monitoring code xs space) → Monitored g m.value code xs space (answer (finished code q.header (done monitor m g)) space)
 monitors code xs space m None q = replied (finished code q.header (done monitor m None)) space _ (sym (ap (λ r. by_header code r (refused NotRegistered)) (tested_too code (length space) xs q.header q.passes)))
 monitors code xs space m (Some l) q = λ x sh.
-    let same : shown-list m l ≡ answered x = ap answered (cc) in
+    let same : shown_list m l ≡ answered x = ap answered (cc) in
     (refl, replied (finished code q.header (done monitor m (Some l))) space _ (ap (by_header code (Ok q.header)) same ∙ sym (ap (λ r. by_header code r (answered x)) (tested_too code (length space) xs q.header q.passes))))
 
 one_monitor : (s : State) (c : Move) (code : Code) (xs space : List ℕ) → c ≡ frame code xs space → Monitoring code xs space → Monitored s.registered s.meaning.value code xs space (outcome s c)

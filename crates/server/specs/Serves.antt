@@ -24,13 +24,13 @@ pub record Done : Type 0 where
   pub registered : Option Listed
 
 -- the answer to a list of words and double words that are shown
-abbrev pub shown : Meaning → Listed → Answered
-shown m l = accepted (in_both (values_of Word m.value l.0) (values_of Double m.value l.1))
+abbrev pub shown_list : Meaning → Listed → Answered
+shown_list m l = accepted (in_both (values_of Word m.value l.0) (values_of Double m.value l.1))
 
 -- the answer to a monitor request: the registered list, if there is one
 abbrev pub monitored : Meaning → Option Listed → Answered
 monitored m None = refused NotRegistered
-monitored m (Some l) = shown m l
+monitored m (Some l) = shown_list m l
 
 -- what is left of a memory and a registration by an answer that changes neither
 abbrev pub unchanged : Answered → Meaning → Option Listed → Done
@@ -46,7 +46,7 @@ done (read_bits d i n) m g = unchanged (accepted (in_bits (bits m.value d i n)))
 done (read_words d i n) m g = unchanged (accepted (in_words (words m.value d i n))) m g
 done (write_bits d i vs) m g = wrote (in_row d i vs) m g
 done (write_words d i vs) m g = wrote (as_words d i vs) m g
-done (random_read ws ds) m g = unchanged (shown m (ws, ds)) m g
+done (random_read ws ds) m g = unchanged (shown_list m (ws, ds)) m g
 done (register ws ds) m g = record { answer = accepted no_data; meaning = m; registered = Some (ws, ds) }
 done monitor m g = unchanged (monitored m g) m g
 done (random_bits ss) m g = wrote (each as_point ss) m g

@@ -5,7 +5,7 @@ ghost use Rattle.device.specs.declared.types.Kind.TheVariants.{Bit};
 ghost use Rattle.server.specs.Points.{words, bits};
 ghost use Rattle.server.specs.Registered.{registered, words_in, doubles_in};
 ghost use Rattle.server.specs.Answers.{accepted, refused, no_data, in_bits, in_words, answer_bytes};
-ghost use Rattle.server.specs.Serves.{Tells, Replies, shown, monitored};
+ghost use Rattle.server.specs.Serves.{Tells, Replies, shown_list, monitored};
 
 use crate::answer::Answer;
 use crate::points::Width;
@@ -106,7 +106,7 @@ impl Reply<'_> {
         memory: &M,
         list: &Registration,
     ) -> Answer
-        ensures tells { Replies C.WireCode.which self.old.header (shown (M.ReadableMemory.means memory.now) (words_in list.now, doubles_in list.now)) result self.old.space.now self.new.space.now }
+        ensures tells { Replies C.WireCode.which self.old.header (shown_list (M.ReadableMemory.means memory.now) (words_in list.now, doubles_in list.now)) result self.old.space.now self.new.space.now }
         ensures name { self.new.space.ghost_name ≡ self.old.space.ghost_name }
         ensures fits { result.length ≤ length self.old.space.now }
     {
