@@ -15,9 +15,10 @@ use std::fs;
 use std::rt::Files;
 use verdict::Counts;
 
-fn run(rt: &(impl Files + AllocGlobal + Print)) -> anyhow::Result<()> {
+// Compares each row of a table, and tells what came of it and of all.
+fn compare_table(rt: &(impl Files + AllocGlobal + Print), name: &str) -> anyhow::Result<()> {
     let heap = rt.alloc();
-    let text = fs::read_to_string(rt, "manual-examples.tsv")?;
+    let text = fs::read_to_string(rt, name)?;
     let mut servers = Servers::new();
     let mut counts = Counts::default();
     for line in text.as_str().lines().skip(1) {
@@ -29,6 +30,12 @@ fn run(rt: &(impl Files + AllocGlobal + Print)) -> anyhow::Result<()> {
     }
     rt.println(counts)?;
     Ok(())
+}
+
+fn run(rt: &(impl Files + AllocGlobal + Print)) -> anyhow::Result<()> {
+    compare_table(rt, "manual-examples.tsv")?;
+    println!(rt; "rows that are wrong on purpose, to show that the comparison tells:")?;
+    compare_table(rt, "wrong-examples.tsv")
 }
 
 fn main(rt: HostRuntime) -> anyhow::Result<()> {
