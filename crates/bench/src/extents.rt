@@ -1,4 +1,7 @@
 // The lines of a script that make a memory.
+ghost use Rattle.std.specs.Prelude.{◌≡◌, cond, is_some, Some, Ok, Err};
+ghost use Rattle.bench.specs.declared.expected.Expected.TheVariants.{Extents};
+
 use crate::cutting::{Words, split_once};
 use crate::expected::Expected;
 use crate::line::Line;
@@ -13,6 +16,17 @@ fn read_extent(part: &[u8]) -> Result<(Device, u32), Expected> {
     Ok((read_symbol(symbol)?, read_number(points)?))
 }
 
+// Gives a device its extent, which no earlier part may have given it.
+fn name_once(extent: &mut Option<u32>, points: u32) -> Result<(), Expected>
+    ensures answer { result ≡ cond (is_some extent.old) (Err Extents) (Ok tt) }
+    ensures named { extent.new ≡ Some points }
+{
+    match extent.replace(points) {
+        Some(_) => Err(Expected::Extents),
+        None => Ok(()),
+    }
+}
+
 // Extents by symbol, divided by commas; a device that is not named has no points.
 fn read_extents(word: &[u8]) -> Result<[u32; 12], Expected> {
     let mut named: [Option<u32>; 12] = [None; 12];
@@ -24,9 +38,7 @@ fn read_extents(word: &[u8]) -> Result<[u32; 12], Expected> {
             return Err(Expected::Extents);
         }
         let (device, points) = read_extent(part)?;
-        if named[device.place()].replace(points).is_some() {
-            return Err(Expected::Extents);
-        }
+        name_once(&mut named[device.place()], points)?;
     }
     Ok(named.map(|points| points.unwrap_or(0)))
 }

@@ -1,4 +1,7 @@
 // The lines of a script that carry frames: one frame, or a sheet of them.
+ghost use Rattle.std.specs.Prelude.{◌≡◌, ◌≢◌, ◌∷◌, ℕ, List, MatchOption};
+ghost use Rattle.wire.specs.declared.code.Code.TheVariants.{Ascii};
+
 use crate::cutting::{Words, split_once};
 use crate::expected::Expected;
 use crate::line::Line;
@@ -36,11 +39,21 @@ fn read_last_hex(heap: Global, mut words: Words<'_>) -> Result<Vec<u8>, Expected
     read_hex(heap, digits)
 }
 
+// What stands behind an opening quotation mark, which a frame in ASCII alone may have.
+fn opened(code: Code, rest: &[u8]) -> Option<&[u8]>
+    ensures { MatchOption result (code ≡ Ascii → (text : List ℕ) → rest.now ≢ 34 ∷ text) (λ text. (code ≡ Ascii) × (rest.now ≡ 34 ∷ text.now)) }
+{
+    match (code, rest) {
+        (Code::Ascii, [b'"', text @ ..]) => Some(text),
+        _ => None,
+    }
+}
+
 // The bytes of a frame: in digits, or in ASCII also as a text between quotation marks.
 fn read_content(heap: Global, code: Code, words: Words<'_>) -> Result<Vec<u8>, Expected> {
-    match (code, words.rest()) {
-        (Code::Ascii, [b'"', text @ ..]) => read_quoted(heap, text),
-        _ => read_last_hex(heap, words),
+    match opened(code, words.rest()) {
+        Some(text) => read_quoted(heap, text),
+        None => read_last_hex(heap, words),
     }
 }
 
