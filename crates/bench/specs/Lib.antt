@@ -4,3 +4,4 @@ pub mod Decimals
 pub mod Names
 pub mod Widths
 pub mod Blanks
+pub mod Quoted

@@ -1,5 +1,5 @@
 // Cutting a line into words.
-ghost use Rattle.std.specs.Prelude.{◌≡◌, ℕ, ◌<◌, ◌≤◌, ◌∷◌, ◌++◌, ◌≢◌, true, false, cond, length, Ok, Err, ◌==◌, slice_index, MatchOption};
+ghost use Rattle.std.specs.Prelude.{◌≡◌, ℕ, ◌-◌, ◌<◌, ◌≤◌, ◌∷◌, ◌++◌, ◌≢◌, true, false, cond, length, Ok, Err, ◌==◌, slice_index, MatchOption};
 ghost use Rattle.bench.specs.Blanks.{is_blank};
 ghost use Rattle.bench.specs.declared.expected.Expected.TheVariants.{End};
 
@@ -51,7 +51,10 @@ fn blank_length(text: &[u8]) -> usize
 }
 
 // A text without the blanks at its front.
-pub fn trimmed(text: &[u8]) -> &[u8] {
+pub fn trimmed(text: &[u8]) -> &[u8]
+    ensures within { length result.now ≤ length text.now }
+    ensures front { (k : ℕ) → k < length text.now - length result.now → is_blank (slice_index text.now k) ≡ true }
+{
     &text[blank_length(text)..]
 }
 
@@ -62,7 +65,9 @@ pub struct Words<'a> {
 }
 
 impl<'a> Words<'a> {
-    pub fn new(line: &'a [u8]) -> Words<'a> {
+    pub fn new(line: &'a [u8]) -> Words<'a>
+        ensures front { (k : ℕ) → k < length line.now - length result.rest.now → is_blank (slice_index line.now k) ≡ true }
+    {
         Words {
             rest: trimmed(line),
         }

@@ -1,6 +1,7 @@
 // The lines of a script that carry frames: one frame, or a sheet of them.
-ghost use Rattle.std.specs.Prelude.{◌≡◌, ◌≢◌, ◌∷◌, ℕ, List, MatchOption};
+ghost use Rattle.std.specs.Prelude.{◌≡◌, ◌≢◌, ◌∷◌, ℕ, List, MatchOption, IfOk};
 ghost use Rattle.wire.specs.declared.code.Code.TheVariants.{Ascii};
+ghost use Rattle.bench.specs.Quoted.{Quoted};
 
 use crate::cutting::{Words, split_once};
 use crate::expected::Expected;
@@ -58,7 +59,9 @@ fn read_content(heap: Global, code: Code, words: Words<'_>) -> Result<Vec<u8>, E
 }
 
 // A text up to its closing quotation mark, behind which nothing stands.
-fn read_quoted(heap: Global, text: &[u8]) -> Result<Vec<u8>, Expected> {
+fn read_quoted(heap: Global, text: &[u8]) -> Result<Vec<u8>, Expected>
+    ensures { IfOk result (λ bytes. Quoted text.now bytes.items) }
+{
     let (quoted, behind) = split_once(text, b'"').ok_or(Expected::Quote)?;
     Words::new(behind).ended()?;
     let bytes = Vec::from_slice(heap, quoted)?;
