@@ -114,7 +114,7 @@ impl Access {
     // Tells its value, which stands at `at`, and says where the next field does: there too, where the value is not there.
     fn tell_value(self, rt: &HostRuntime, data: Coded<'_>, at: usize) -> io::Result<usize> {
         let Some((value, next)) = data.number(at, self.width) else {
-            print!(rt; "(no value)")?;
+            print!(rt; "{self} (no value)")?;
             return Ok(at);
         };
         let reading = Reading {
@@ -154,10 +154,13 @@ impl Listed<'_> {
     {
         let list = self.list;
         let mut at = list.at;
+        if list.total() == 0 {
+            return print!(rt; "nothing");
+        }
         // The index says what an access reaches, and its field stands where the one before ends: a chain would have to carry both.
         for i in 0..told(list.total()) {
             let Some(access) = Access::read(self.frame, at, list.width(i)) else {
-                return tell_unread(rt);
+                return tell_unread(rt, i);
             };
             tell_comma(rt, i)?;
             at = tell(access)?;

@@ -96,7 +96,10 @@ pub fn tell_more(rt: &HostRuntime, count: u32) -> io::Result<()> {
     Ok(())
 }
 
-// Tells that the rest of a row or a list cannot be read.
-pub fn tell_unread(rt: &HostRuntime) -> io::Result<()> {
-    print!(rt; " .. and what follows cannot be read")
+// Tells that a row or a list cannot be read from an index on.
+pub fn tell_unread(rt: &HostRuntime, index: u32) -> io::Result<()> {
+    if index > 0 {
+        return print!(rt; " .. and what follows cannot be read");
+    }
+    print!(rt; "what follows cannot be read")
 }

@@ -74,11 +74,14 @@ impl fmt::Display for Row {
 
 // Tells the values of a row, which stand at the front of `data`.
 pub fn tell_row(rt: &HostRuntime, row: Row, data: Coded<'_>) -> io::Result<()> {
+    if row.count == 0 {
+        return print!(rt; "nothing");
+    }
     let mut at = 0;
     // The index gives the point, and a field stands where the one before ends: a chain would have to carry both.
     for i in 0..told(u32::from(row.count)) {
         let Some((value, next)) = row.value(data, i, at) else {
-            return tell_unread(rt);
+            return tell_unread(rt, i);
         };
         tell_comma(rt, i)?;
         let reading = Reading {

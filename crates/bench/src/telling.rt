@@ -150,7 +150,7 @@ fn tell_monitored(
 ) -> io::Result<()> {
     match registered_list(registered) {
         Some(listed) => listed.tell_values(rt, data),
-        None => tell_unread(rt),
+        None => tell_unread(rt, 0),
     }
 }
 
