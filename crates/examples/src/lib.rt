@@ -20,8 +20,14 @@ pub fn worked_runs() -> u8
 }
 
 #[cfg(test)]
+mod frames;
+#[cfg(test)]
 mod histories;
 #[cfg(test)]
-mod tests;
+mod memories;
+#[cfg(test)]
+mod registrations;
+#[cfg(test)]
+mod serving;
 #[cfg(test)]
 mod windows;
