@@ -1,7 +1,7 @@
 // The table of devices, in ascending order of code, and its search by code and by symbol.
-ghost use Rattle.std.specs.Prelude.{◌≡◌, ◌<◌, [], ◌∷◌, MatchOption, ◌≢◌};
+ghost use Rattle.std.specs.Prelude.{◌≡◌, ◌==◌, ◌&&◌, ◌<◌, [], ◌∷◌, MatchOption, ◌≢◌};
 ghost use Rattle.device.specs.Devices.{code_of, kind_of, symbol_of, notation_of, row_of};
-ghost use Rattle.device.specs.Search.{first_row, has_code, has_symbol, device_by_code, device_by_symbol};
+ghost use Rattle.device.specs.Search.{has_code, has_symbol, device_by_code, device_by_symbol};
 ghost use Rattle.device.specs.declared.types.Device.{Device};
 
 use crate::types::{Device, Kind, Notation};
@@ -16,7 +16,7 @@ pub struct Row {
     pub notation: Notation,
 }
 
-pub const DEVICES: [Row; 12] = [
+pub static DEVICES: [Row; 12] = [
     Row {
         device: Device::M,
         code: 0x90,
@@ -136,6 +136,13 @@ impl Device {
     }
 }
 
+// Whether two characters are the two that are looked for. A pair is compared as one number, so that a row of the search costs one comparison.
+fn is_pair(one: u8, other: u8, first: u8, second: u8) -> bool
+    ensures { result ≡ (one == first && other == second) }
+{
+    u16::from_le_bytes([one, other]) == u16::from_le_bytes([first, second])
+}
+
 impl Row {
     fn has_code(&self, code: u8) -> bool
         ensures { result ≡ has_code code self.now }
@@ -146,7 +153,7 @@ impl Row {
     fn has_symbol(&self, first: u8, second: u8) -> bool
         ensures { result ≡ has_symbol first second self.now }
     {
-        self.symbol == [first, second]
+        is_pair(self.symbol[0], self.symbol[1], first, second)
     }
 }
 

@@ -1,9 +1,35 @@
 // Digits as characters: '0' to '9', and in hexadecimal 'A' to 'F' too.
 ghost use Rattle.std.specs.Prelude.{◌≡◌, ◌+◌, ◌*◌, ◌/◌, ◌%◌, ◌^◌, ◌<◌, ◌≤◌};
+ghost use Rattle.std.specs.Option.{unwrap_or};
 ghost use Rattle.wire.specs.Numbers.{base, digit_of, hex_value, hex_char};
 
 use crate::code::FieldFault;
 use device::Notation;
+
+// What the table of digits has for a byte that is no digit: it is below no base.
+pub const NO_DIGIT: u8 = 16;
+
+// The digit that each byte stands for in hexadecimal, in rows of sixteen bytes.
+static DIGITS: [u8; 256] = *b"\
+    \x10\x10\x10\x10\x10\x10\x10\x10\x10\x10\x10\x10\x10\x10\x10\x10\
+    \x10\x10\x10\x10\x10\x10\x10\x10\x10\x10\x10\x10\x10\x10\x10\x10\
+    \x10\x10\x10\x10\x10\x10\x10\x10\x10\x10\x10\x10\x10\x10\x10\x10\
+    \x00\x01\x02\x03\x04\x05\x06\x07\x08\x09\x10\x10\x10\x10\x10\x10\
+    \x10\x0A\x0B\x0C\x0D\x0E\x0F\x10\x10\x10\x10\x10\x10\x10\x10\x10\
+    \x10\x10\x10\x10\x10\x10\x10\x10\x10\x10\x10\x10\x10\x10\x10\x10\
+    \x10\x10\x10\x10\x10\x10\x10\x10\x10\x10\x10\x10\x10\x10\x10\x10\
+    \x10\x10\x10\x10\x10\x10\x10\x10\x10\x10\x10\x10\x10\x10\x10\x10\
+    \x10\x10\x10\x10\x10\x10\x10\x10\x10\x10\x10\x10\x10\x10\x10\x10\
+    \x10\x10\x10\x10\x10\x10\x10\x10\x10\x10\x10\x10\x10\x10\x10\x10\
+    \x10\x10\x10\x10\x10\x10\x10\x10\x10\x10\x10\x10\x10\x10\x10\x10\
+    \x10\x10\x10\x10\x10\x10\x10\x10\x10\x10\x10\x10\x10\x10\x10\x10\
+    \x10\x10\x10\x10\x10\x10\x10\x10\x10\x10\x10\x10\x10\x10\x10\x10\
+    \x10\x10\x10\x10\x10\x10\x10\x10\x10\x10\x10\x10\x10\x10\x10\x10\
+    \x10\x10\x10\x10\x10\x10\x10\x10\x10\x10\x10\x10\x10\x10\x10\x10\
+    \x10\x10\x10\x10\x10\x10\x10\x10\x10\x10\x10\x10\x10\x10\x10\x10";
+
+// The characters of the digits.
+static CHARACTERS: [u8; 16] = *b"0123456789ABCDEF";
 
 // The digit that a byte stands for; any other byte is a fault at its place.
 // Matched by characters and ranges, as the rules list them; `to_digit` would take small letters too.
@@ -15,6 +41,13 @@ pub fn digit(notation: Notation, byte: u8, place: u8) -> Result<u8, FieldFault>
         ('A'..='F', Notation::Hexadecimal) => Ok(byte - b'A' + 10),
         _ => Err(FieldFault::Digit(place)),
     }
+}
+
+// The digit that a byte stands for in hexadecimal, and `NO_DIGIT` if it stands for none. By a table, so that nothing branches on the byte.
+pub fn table_digit(byte: u8) -> u8
+    ensures { result ≡ unwrap_or (hex_value byte) NO_DIGIT }
+{
+    DIGITS[usize::from(byte)]
 }
 
 // The hexadecimal digit that a byte stands for, if it does.
@@ -30,11 +63,7 @@ pub fn hex_char(digit: u8) -> u8
     requires { digit < 16 }
     ensures { result ≡ hex_char digit }
 {
-    if digit <= 9 {
-        b'0' + digit
-    } else {
-        b'A' + (digit - 10)
-    }
+    CHARACTERS[usize::from(digit)]
 }
 
 // How many digits a notation has.

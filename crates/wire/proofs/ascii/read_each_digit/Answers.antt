@@ -4,7 +4,7 @@ use Rattle.wire.specs.Numbers.{digit_of}
 use Rattle.wire.proofs.Numbers.{digit_more, eight_digits, two_a_byte}
 use Rattle.wire.proofs.Places.{part_at}
 use Rattle.wire.proofs.Turns.{digits_turn, digits_stop}
-use Rattle.wire.proofs.ascii.read_digits.Goals as goal
+use Rattle.wire.proofs.ascii.read_each_digit.Goals as goal
 
 pub returns-in_err-digit : goal.returns-in_err-digit
 returns-in_err-digit c =
