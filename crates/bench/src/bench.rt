@@ -5,9 +5,38 @@ use crate::space::or_dash;
 use crate::storage::Storage;
 use crate::words::{Extent, Named, Point, flag_name};
 use device::{DEVICES, Device};
-use memory::{Locked, Range, ReadableMemory, WritableMemory};
+use memory::{Locked, Locks, Range, ReadableMemory, Refusal, WritableMemory};
 use server::{Registration, Server, Settings};
 use std::io;
+
+// Tells whether a range was locked.
+fn tell_lock(rt: &HostRuntime, range: Range, answer: Result<(), Refusal>) -> io::Result<()> {
+    let device = range.device;
+    let first = Named(Point {
+        device,
+        number: range.first,
+    });
+    let last = Named(Point {
+        device,
+        number: range.last,
+    });
+    match answer {
+        Ok(()) => {
+            println!(rt; "lock ok")?;
+            println!(rt; "  {first} to {last} are locked against writing")
+        }
+        Err(refusal) => {
+            let cause = refusal.number();
+            let words = if range.last < range.first {
+                "the last number lies before the first"
+            } else {
+                "sixteen ranges are locked already"
+            };
+            println!(rt; "lock refused {cause}")?;
+            println!(rt; "  {first} to {last} were not locked ({cause}): {words}")
+        }
+    }
+}
 
 #[derive(Drop)]
 pub struct Bench<M> {
@@ -18,20 +47,48 @@ pub struct Bench<M> {
     pub registered: Option<Registered>,
 }
 
+impl<M: WritableMemory + Drop> Bench<M> {
+    // The same bench over the same memory, made anew with one range of locks more, if it can be locked.
+    pub fn lock(self, rt: &HostRuntime, range: Range) -> io::Result<Bench<M>> {
+        let Bench {
+            server,
+            window,
+            registered,
+        } = self;
+        let Server {
+            memory,
+            settings,
+            registration,
+        } = server;
+        let (below, mut locks) = memory.into_parts();
+        let answer = locks.add(range);
+        tell_lock(rt, range, answer)?;
+        let server = Server {
+            memory: Locked::new(below, locks),
+            settings,
+            registration,
+        };
+        Ok(Bench {
+            server,
+            window,
+            registered,
+        })
+    }
+}
+
 impl<M: WritableMemory + Storage> Bench<M> {
     // A bench over a memory: no locks, writing off, nothing registered, no window.
     pub fn new(memory: M) -> Bench<M> {
         Bench {
-            server: Server::new(Locked::new(memory), false),
+            server: Server::new(Locked::new(memory, Locks::new()), false),
             window: false,
             registered: None,
         }
     }
 
-    // Carries out a line that is no call of a history and makes no memory.
+    // Carries out a line that is no call of a history, locks no points and makes no memory.
     pub fn carry_out(&mut self, rt: &HostRuntime, line: &Line) -> io::Result<()> {
         match line {
-            Line::Lock(range) => self.lock(rt, *range),
             Line::Server(write_flag) => self.set_up(rt, *write_flag),
             Line::Look(point) => self.look(rt, *point),
             Line::Run {
@@ -42,34 +99,6 @@ impl<M: WritableMemory + Storage> Bench<M> {
             } => self.run(rt, *code, *cancel, space.bytes, sheet.as_slice()),
             Line::Final => self.show(rt),
             _ => Ok(()),
-        }
-    }
-
-    pub fn lock(&mut self, rt: &HostRuntime, range: Range) -> io::Result<()> {
-        let device = range.device;
-        let first = Named(Point {
-            device,
-            number: range.first,
-        });
-        let last = Named(Point {
-            device,
-            number: range.last,
-        });
-        match self.server.memory.lock(range) {
-            Ok(()) => {
-                println!(rt; "lock ok")?;
-                println!(rt; "  {first} to {last} are locked against writing")
-            }
-            Err(refusal) => {
-                let cause = refusal.number();
-                let words = if range.last < range.first {
-                    "the last number lies before the first"
-                } else {
-                    "sixteen ranges are locked already"
-                };
-                println!(rt; "lock refused {cause}")?;
-                println!(rt; "  {first} to {last} were not locked ({cause}): {words}")
-            }
         }
     }
 

@@ -28,7 +28,10 @@ pub fn run_section<M: WritableMemory + Storage>(
         let Some((line, behind)) = others.split_first() else {
             return Ok(());
         };
-        bench.carry_out(rt, line)?;
+        match line {
+            Line::Lock(range) => bench = bench.lock(rt, *range)?,
+            _ => bench.carry_out(rt, line)?,
+        }
         rest = behind;
     }
 }

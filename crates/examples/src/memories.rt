@@ -2,7 +2,9 @@
 use crate::serving::{fault, small_extents};
 use device::Device;
 use frame::Cause;
-use memory::{ByteImage, Locked, PackedTables, Range, ReadableMemory, Refusal, WritableMemory};
+use memory::{
+    ByteImage, Locked, Locks, PackedTables, Range, ReadableMemory, Refusal, WritableMemory,
+};
 use server::{Registration, Settings, take_frame};
 use std::process::Abort;
 use wire::Code;
@@ -85,9 +87,9 @@ fn writes_in_one_code_read_in_the_other(rt: HostRuntime) {
 
 // A lock over any memory: D1 is closed.
 fn lock_second<M: WritableMemory>(rt: &impl Abort, memory: &mut M) {
-    let mut locked = Locked::new(memory);
+    let mut locks = Locks::new();
     assert_eq!(rt;
-        locked.lock(Range {
+        locks.add(Range {
             device: Device::D,
             first: 1,
             last: 1,
@@ -95,13 +97,14 @@ fn lock_second<M: WritableMemory>(rt: &impl Abort, memory: &mut M) {
         Ok(())
     );
     assert_eq!(rt;
-        locked.lock(Range {
+        locks.add(Range {
             device: Device::D,
             first: 9,
             last: 3,
         }),
         Err(Refusal::NoLock)
     );
+    let mut locked = Locked::new(memory, locks);
     let mut reply = [0xEEu8; 4096];
     let on = Settings { write_flag: true };
     let mut none = Registration::new();

@@ -6,6 +6,7 @@ use lib.Seq.{sets}
 use Rattle.std.proofs.lemmas.Bool.{cond-true}
 use Rattle.device.specs.declared.types.Device.{Device}
 use Rattle.memory.specs.Meaning.{Meaning, extent_limit, put}
+use Rattle.memory.specs.Leaving.{Write}
 use Rattle.wire.specs.declared.code.Code.{Code}
 use Rattle.wire.specs.Numbers.{then}
 use Rattle.frame.specs.declared.fault.Fault.{Fault}
@@ -14,7 +15,7 @@ use Rattle.frame.specs.Headers.{tested}
 use Rattle.request.specs.Requests.{Asked, read_bits, read_words, write_bits, write_words, random_read, register, monitor, random_bits, random_write, Monitor, command_of}
 use Rattle.request.specs.Readings.{judged_by, request_in}
 use Rattle.server.specs.Points.{Values}
-use Rattle.server.specs.Writes.{Write, puts}
+use Rattle.server.specs.Writes.{puts}
 use Rattle.server.specs.Registered.{Listed}
 use Rattle.server.specs.Answers.{Data, Answered, accepted as answered, refused, answer_bytes}
 use Rattle.server.specs.Serves.{done, Served, finished, late_fault, answered as judged, taken_up, served}
@@ -71,8 +72,8 @@ done_shows (random_write ws ds) m g s h = cc
 pub data CameTo (code : Code) (xs : List ℕ) (m : Meaning) (g : Option Listed) : Served → Type 0 where
   carried : (h : Header) (a : Asked) → tested code 4096 xs ≡ Ok h → asked_in code xs ≡ Ok a → CameTo code xs m g (finished code h (done a m g))
   turned_down : (h : Header) (f : Fault) → tested code 4096 xs ≡ Ok h
-      → CameTo code xs m g (record { taken = h.size; bytes = answer_bytes code h (refused f.cause); fault_met = Some f; meaning = m; registered = g })
-  not_taken : (f : Fault) → CameTo code xs m g (record { taken = 0; bytes = []; fault_met = Some f; meaning = m; registered = g })
+      → CameTo code xs m g (record { taken = h.size; bytes = answer_bytes code h (refused f.cause); fault_met = Some f; writes = []; meaning = m; registered = g })
+  not_taken : (f : Fault) → CameTo code xs m g (record { taken = 0; bytes = []; fault_met = Some f; writes = []; meaning = m; registered = g })
 
 pub came_to : (code : Code) (xs : List ℕ) (space : ℕ) (m : Meaning) (flag : Bool) (g : Option Listed) → ((d : Device) → m.extent d ≤ extent_limit d) → CameTo code xs m g (served code xs space m flag g)
 came_to code xs space m flag g small = by_frame (tested code space xs) refl

@@ -1,4 +1,5 @@
 pub mod Onward
+pub mod Led
 pub mod Looser
 pub mod Accepts
 pub mod Latest

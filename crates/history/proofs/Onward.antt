@@ -12,7 +12,7 @@ use Rattle.server.proofs.Onward.{carries_on}
 use Rattle.history.specs.Moves.{move, moves, told, tellings, StaysIn, Left}
 
 -- the call that is left first of a list is the next that is taken
-take_next : (all : List Move) (k : ℕ) (m : Move) (rest : List Move) → drop k all ≡ m ∷ rest → take (suc k) all ≡ take k all ++ m ∷ []
+pub take_next : (all : List Move) (k : ℕ) (m : Move) (rest : List Move) → drop k all ≡ m ∷ rest → take (suc k) all ≡ take k all ++ m ∷ []
 take_next [] zero m rest e = cc
 take_next [] (suc k) m rest e = cc
 take_next (x ∷ xs) zero m rest e = let is : x ≡ m = cc in ap (λ y. y ∷ []) is

@@ -1,6 +1,7 @@
 -- What the calls of a history ask, by their bytes alone, and whether they were accepted.
 use Rattle.std.specs.Prelude.{ℕ, Bool, true, false, List, [], ◌∷◌, ◌++◌, take, is_ok, is_none, Some, None, Ok, Err, Option, Result}
 use Rattle.memory.specs.Meaning.{Meaning, extent_limit}
+use Rattle.memory.specs.Leaving.{Write}
 use Rattle.wire.specs.declared.code.Code.{Code}
 use Rattle.wire.specs.Numbers.{then}
 use Rattle.frame.specs.declared.fault.Fault.{Fault}
@@ -10,7 +11,7 @@ use Rattle.request.specs.Requests.{Asked, read_bits, read_words, write_bits, wri
 use Rattle.request.specs.Readings.{request_in}
 use Rattle.server.specs.declared.points.Width.TheVariants.{Word, Double}
 use Rattle.server.specs.Points.{Values, bits, words, values_of}
-use Rattle.server.specs.Writes.{Write, in_row, as_point, as_word, as_double, as_words, each}
+use Rattle.server.specs.Writes.{in_row, as_point, as_word, as_double, as_words, each}
 use Rattle.server.specs.Registered.{Listed}
 use Rattle.server.specs.Answers.{Data, in_bits, in_words, in_both, Answered, answer_bytes}
 use Rattle.server.specs.Histories.{Move, frame, setting, opening, ending, Shown, taken, written, window}

@@ -4,6 +4,7 @@ use Rattle.std.specs.Option.{option_or}
 use Rattle.std.proofs.lemmas.List.Edits.{sets}
 use Rattle.device.specs.declared.types.Device.{Device}
 use Rattle.memory.specs.Meaning.{extent_limit, same_point}
+use Rattle.memory.specs.Leaving.{Write}
 use Rattle.wire.specs.declared.code.Code.{Code}
 use Rattle.frame.specs.declared.fault.Cause.{Cause}
 use Rattle.frame.specs.declared.fault.Cause.TheVariants.{NotRegistered}
@@ -11,7 +12,6 @@ use Rattle.frame.specs.declared.header.Header.{Header}
 use Rattle.frame.specs.Headers.{tested}
 use Rattle.request.specs.Requests.{Asked, random_read}
 use Rattle.server.specs.Points.{Values}
-use Rattle.server.specs.Writes.{Write}
 use Rattle.server.specs.Registered.{Listed}
 use Rattle.server.specs.Answers.{Data, accepted as answered, refused}
 use Rattle.server.specs.Histories.{Move, frame, ending, Shown, taken, written, window, State, Reached, Ran}

@@ -2,7 +2,8 @@
 // Memory, settings and registration are apart here and in the loops over calls, as in the server: a window lends the settings while the others are written.
 ghost use Rattle.std.specs.Prelude.{◌≡◌, Bool, Option, MatchResult};
 ghost use Rattle.server.specs.Registered.{registered};
-ghost use Rattle.server.specs.Histories.{frame, state, CarriesOn};
+ghost use Rattle.memory.specs.Leaving.{Leads};
+ghost use Rattle.server.specs.Histories.{frame, state, made_by, CarriesOn};
 ghost use Rattle.history.specs.Moves.{move, told, StaysIn};
 
 use crate::call::{Call, Outcome};
@@ -22,7 +23,8 @@ fn answer_frame<M: WritableMemory>(
     settings: &Settings,
     registration: &mut Registration,
 ) -> Result<Outcome, AllocError>
-    ensures keeps { M.ReadableMemory.keeps memory.old memory.new }
+    ensures left { let s = λ (b : Option Bool). state (M.means memory.old) settings.now.write_flag b (registered registration.old) in
+        MatchResult result (λ _. (b : Option Bool) → Leads M.leaves memory.old (made_by (s b) (frame code bytes.now space.now)) memory.new) (λ _. memory.new ≡ memory.old) }
     ensures carries { MatchResult result (λ o. (b : Option Bool) → CarriesOn (state (M.ReadableMemory.means memory.old) settings.now.write_flag b (registered registration.old)) (frame code bytes.now space.now) (told o) (state (M.ReadableMemory.means memory.new) settings.now.write_flag b (registered registration.new))) (λ _. (M.ReadableMemory.means memory.new ≡ M.ReadableMemory.means memory.old) × (registered registration.new ≡ registered registration.old)) }
 {
     let mut space = Vec::from_slice(heap, space)?;
@@ -47,7 +49,8 @@ pub(crate) fn carry_out<M: WritableMemory>(
     settings: &Settings,
     registration: &mut Registration,
 ) -> Result<Outcome, AllocError>
-    ensures keeps { M.ReadableMemory.keeps memory.old memory.new }
+    ensures left { let s = λ (b : Option Bool). state (M.means memory.old) settings.now.write_flag b (registered registration.old) in
+        MatchResult result (λ _. (b : Option Bool) → Leads M.leaves memory.old (made_by (s b) (move call.entry)) memory.new) (λ _. memory.new ≡ memory.old) }
     ensures carries { MatchResult result (λ o. (b : Option Bool) → StaysIn b (move call.entry) → CarriesOn (state (M.ReadableMemory.means memory.old) settings.now.write_flag b (registered registration.old)) (move call.entry) (told o) (state (M.ReadableMemory.means memory.new) settings.now.write_flag b (registered registration.new))) (λ _. (M.ReadableMemory.means memory.new ≡ M.ReadableMemory.means memory.old) × (registered registration.new ≡ registered registration.old)) }
 {
     match call {

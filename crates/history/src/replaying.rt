@@ -3,7 +3,8 @@ ghost use Rattle.std.specs.Prelude.{◌≡◌, ◌+◌, ◌<◌, ◌≤◌, List
 ghost use Rattle.std.specs.Slice.Iter.{iter_rest};
 ghost use Rattle.server.specs.Registered.{registered};
 ghost use Rattle.history.specs.Moves.{moves, tellings, Left};
-ghost use Rattle.server.specs.Histories.{Move, State, state, Reached, Ran};
+ghost use Rattle.memory.specs.Leaving.{Leads};
+ghost use Rattle.server.specs.Histories.{Move, State, state, made_through, Reached, Ran};
 ghost use Rattle.history.specs.Latest.{KeptTo, KeptOn};
 
 use crate::call::{Call, Outcome};
@@ -26,7 +27,13 @@ fn run_window<M: WritableMemory>(
     requires room { vec_len outcomes.old + length (iter_rest calls.old) ≤ vec_capacity outcomes.old }
     ensures few { (vec_len outcomes.old ≤ vec_len outcomes.new) × (vec_len outcomes.new + length (iter_rest calls.new) ≤ vec_len outcomes.old + length (iter_rest calls.old)) }
     ensures room { vec_len outcomes.old + length (iter_rest calls.old) ≤ vec_capacity outcomes.new }
-    ensures keeps { M.ReadableMemory.keeps memory.old memory.new }
+    ensures led { let n = vec_len outcomes.old in
+        let before = state (M.means memory.old) true (Some settings.old.write_flag) (registered registration.old) in
+        (s : State) (all : List Move) (from : M) →
+        Left all n (iter_rest calls.old) →
+        Reached s (take n all) (tellings outcomes.old.items) before →
+        Leads M.leaves from (made_through s (take n all)) memory.old →
+        Leads M.leaves from (made_through s (take (vec_len outcomes.new) all)) memory.new }
     ensures flag { settings.new.write_flag ≡ settings.old.write_flag }
     ensures ran { (s : State) (all : List Move) → Left all (vec_len outcomes.old) (iter_rest calls.old) → Reached s (take (vec_len outcomes.old) all) (tellings outcomes.old.items) (state (M.ReadableMemory.means memory.old) true (Some settings.old.write_flag) (registered registration.old)) → Ran s (take (vec_len outcomes.new) all) (tellings outcomes.new.items) (state (M.ReadableMemory.means memory.new) settings.old.write_flag None (registered registration.new)) }
     ensures reached { is_ok result ≡ true → (s : State) (all : List Move) → Left all (vec_len outcomes.old) (iter_rest calls.old) → 0 < length (iter_rest calls.new) → Reached s (take (vec_len outcomes.old) all) (tellings outcomes.old.items) (state (M.ReadableMemory.means memory.old) true (Some settings.old.write_flag) (registered registration.old)) → Reached s (take (vec_len outcomes.new) all) (tellings outcomes.new.items) (state (M.ReadableMemory.means memory.new) settings.old.write_flag None (registered registration.new)) }
@@ -63,7 +70,8 @@ fn run_calls<M: WritableMemory>(
 ) -> Result<(), AllocError>
     requires room { length calls.now ≤ vec_capacity outcomes.old }
     requires none { (vec_len outcomes.old ≡ 0) × (outcomes.old.items ≡ []) }
-    ensures keeps { M.ReadableMemory.keeps server.old.memory server.new.memory }
+    ensures led { let s = state (M.means server.old.memory) server.old.settings.write_flag None (registered server.old.registration) in
+        Leads M.leaves server.old.memory (made_through s (take (vec_len outcomes.new) (moves calls.now))) server.new.memory }
     ensures flag { server.new.settings.write_flag ≡ server.old.settings.write_flag }
     ensures ran { Ran (state (M.ReadableMemory.means server.old.memory) server.old.settings.write_flag None (registered server.old.registration)) (take (vec_len outcomes.new) (moves calls.now)) (tellings outcomes.new.items) (state (M.ReadableMemory.means server.new.memory) server.old.settings.write_flag None (registered server.new.registration)) }
     ensures whole { is_ok result ≡ true → vec_len outcomes.new ≡ length calls.now }
@@ -96,13 +104,15 @@ fn run_calls<M: WritableMemory>(
     Ok(())
 }
 
-// Carries out the calls, from a server with no window open.
+// Carries out the calls one after the other, from a server with no window open, and keeps what each answered. A window that the calls leave open ends with
+// them. Where memory for the outcomes or a reply is wanting, the calls before are carried out and told, and no other one.
 pub fn replay<M: WritableMemory>(
     heap: Global,
     server: &mut Server<M>,
     calls: &[Call<'_>],
 ) -> Replayed
-    ensures keeps { M.ReadableMemory.keeps server.old.memory server.new.memory }
+    ensures led { let s = state (M.means server.old.memory) server.old.settings.write_flag None (registered server.old.registration) in
+        Leads M.leaves server.old.memory (made_through s (take (vec_len result.outcomes) (moves calls.now))) server.new.memory }
     ensures flag { server.new.settings.write_flag ≡ server.old.settings.write_flag }
     ensures kept { KeptTo (state (M.ReadableMemory.means server.old.memory) server.old.settings.write_flag None (registered server.old.registration)) (take (vec_len result.outcomes) (moves calls.now)) (tellings result.outcomes.items) (state (M.ReadableMemory.means server.new.memory) server.old.settings.write_flag None (registered server.new.registration)) }
     ensures onward { KeptOn (state (M.ReadableMemory.means server.old.memory) server.old.settings.write_flag None (registered server.old.registration)) (take (vec_len result.outcomes) (moves calls.now)) (tellings result.outcomes.items) (state (M.ReadableMemory.means server.new.memory) server.old.settings.write_flag None (registered server.new.registration)) }

@@ -18,7 +18,7 @@ and_bit a b k =
     ap (λ (n : ℕ). n % 2) (and_shr a b k ∙ and_step (a / 2 ^ k) (b / 2 ^ k)) ∙ mod-mul-add _ 2 _ (omega arith)
 
 -- a test that passes at each number below a bound
-abbrev all : (ℕ → Bool) → ℕ → Bool
+abbrev pub all : (ℕ → Bool) → ℕ → Bool
 all f zero = true
 all f (suc n) = f n && all f n
 
@@ -30,7 +30,7 @@ and_snd : (a b : Bool) → T (a && b) → T b
 and_snd true b t = t
 and_snd false b t = absurd t
 
-all_at : (f : ℕ → Bool) (n : ℕ) → T (all f n) → (k : ℕ) → k < n → T (f k)
+pub all_at : (f : ℕ → Bool) (n : ℕ) → T (all f n) → (k : ℕ) → k < n → T (f k)
 all_at f zero t k h = absurd (not-suc-le-zero h)
 all_at f (suc n) t k h =
     ⊎_elim

@@ -1,6 +1,6 @@
 pub mod Pairs
-pub mod Starts
-pub mod Smallness
 pub mod Bitwise
+pub mod Smallness
 pub mod Units
+pub mod Starts
 pub mod Points

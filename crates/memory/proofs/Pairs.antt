@@ -1,24 +1,16 @@
--- The rows of the table beside the extents: where the units begin and whether the extents are small, pair by pair.
-use Rattle.std.proofs.Common.{◌≡◌, ℕ, zero, suc, ◌*◌, ◌^◌, ◌<◌, ◌≤◌, Bool, true, false, ◌&&◌, leb, List, [], ◌∷◌, ◌++◌, length, get_or, take, refl, ap, ◌∙◌, arith, not-suc-le-zero, le_of_suc-le-suc, zero-add}
-use Rattle.std.specs.List.{zip, list_all, sum_by}
-use Rattle.std.proofs.lemmas.List.Sums.{sum_by-append}
+-- The rows of the table beside the extents: whether the extents are small, pair by pair.
+use Rattle.std.proofs.Common.{◌≡◌, ℕ, zero, suc, ◌<◌, ◌≤◌, Bool, true, false, ◌&&◌, leb, List, [], ◌∷◌, ◌++◌, length, get_or, take, refl, ap, ◌∙◌, arith, not-suc-le-zero, le_of_suc-le-suc}
+use Rattle.std.specs.List.{zip, list_all}
 use Rattle.std.proofs.lemmas.List.Folds.{list_all-append}
+use Rattle.std.proofs.lemmas.List.{get_or_default}
 use Rattle.std.proofs.Math.ListN.{get_or-map}
 use Rattle.device.specs.declared.table.Row.{Row}
 use Rattle.device.specs.declared.types.Device.TheVariants.{M}
-use Rattle.device.specs.declared.types.Kind.{Kind}
-use Rattle.device.specs.declared.types.Kind.TheVariants.{Bit, Word}
 use Rattle.device.specs.Devices.{devices, rows, row_of, kind_of, device_at_place}
 use Rattle.memory.specs.Meaning.{extent_limit}
-use Rattle.memory.specs.Layout.{units_for, start}
 use Rattle.memory.specs.Making.{small_below}
-use Rattle.memory.specs.declared.layout.Form.{Form}
-use Rattle.memory.specs.declared.layout.Form.TheVariants.{Packed, Image}
 
--- how many units the points of a row take, and whether they pass no limit
-abbrev pub units_in : Form → Row × ℕ → ℕ
-units_in f x = units_for f x.0.kind x.1
-
+-- whether the points of a row pass no limit
 abbrev pub small_in : Row × ℕ → Bool
 small_in x = leb x.1 (extent_limit x.0.device)
 
@@ -44,17 +36,13 @@ all_push t xs x = list_all-append t xs (x ∷ []) ∙ swap (list_all t xs) (t x)
 row_here : (p : ℕ) → get_or rows p (row_of M) ≡ row_of (device_at_place p)
 row_here p = get_or-map row_of devices p M
 
+-- the kind in the row at a place, whatever is read where there is none
+pub kind_here : (p : ℕ) (r : Row) → p < 12 → (get_or rows p r).kind ≡ kind_of (device_at_place p)
+kind_here p r h = ap (λ (x : Row). x.kind) (get_or_default rows p r (row_of M) h ∙ row_here p)
+
 module _ (es : List ℕ) (long : length es ≡ 12) where
   here : (p : ℕ) → p < 12 → zip (take (suc p) rows) es ≡ zip (take p rows) es ++ (row_of (device_at_place p), get_or es p 0) ∷ []
   here p h = pair_more rows es p (row_of M) 0 h (omega arith) ∙ ap (λ (r : Row). zip (take p rows) es ++ (r, get_or es p 0) ∷ []) (row_here p)
-
-  pub start_pairs : (f : Form) (p : ℕ) → p ≤ 12 → sum_by (units_in f) (zip (take p rows) es) ≡ start f es p
-  unfolding start
-  start_pairs f zero h = refl
-  start_pairs f (suc p) h =
-      let x : Row × ℕ = (row_of (device_at_place p), get_or es p 0) in
-      let one : sum_by (units_in f) (x ∷ []) ≡ units_in f x = simp zero-add in
-      ap (sum_by (units_in f)) (here p (omega arith)) ∙ omega (arith, one, sum_by-append (units_in f) (zip (take p rows) es) (x ∷ []), start_pairs f p (omega arith))
 
   pub small_pairs : (p : ℕ) → p ≤ 12 → list_all small_in (zip (take p rows) es) ≡ small_below es p
   unfolding small_below
@@ -63,15 +51,3 @@ module _ (es : List ℕ) (long : length es ≡ 12) where
       ap (list_all small_in) (here p (omega arith))
       ∙ all_push small_in (zip (take p rows) es) (row_of (device_at_place p), get_or es p 0)
       ∙ ap (λ b. small_in (row_of (device_at_place p), get_or es p 0) && b) (small_pairs p (omega arith))
-
-units_most : (f : Form) (κ : Kind) (n : ℕ) → n < 2 ^ 32 → units_for f κ n ≤ 2 ^ 33
-units_most Packed Bit n h = omega arith
-units_most Packed Word n h = omega arith
-units_most Image Bit n h = omega arith
-units_most Image Word n h = omega arith
-
--- no start lies past so many times the largest extent
-pub start_most : (f : Form) (es : List ℕ) (p : ℕ) → ((k : ℕ) → get_or es k 0 < 2 ^ 32) → start f es p ≤ 2 ^ 33 * p
-unfolding start
-start_most f es zero h = omega arith
-start_most f es (suc p) h = omega (arith, start_most f es p h, units_most f (kind_of (device_at_place p)) (get_or es p 0) (h p))

@@ -1,13 +1,14 @@
 -- A write to a storage gives its point the value, no other point another one, and keeps what holds no point.
-use Rattle.std.proofs.Common.{◌≡◌, ℕ, ◌+◌, ◌<◌, ◌≤◌, Bool, true, false, cond, ◌&&◌, eqb, ltb, List, length, Ok, Err, Result, sym, refl, ap, ◌∙◌, subst, inl, inr, ⊎_elim, arith}
+use Rattle.std.proofs.Common.{◌≡◌, ℕ, ◌+◌, ◌<◌, ◌≤◌, Bool, true, false, cond, ◌&&◌, eqb, ltb, List, [], ◌∷◌, length, Ok, Err, Result, sym, refl, ap, ◌∙◌, subst, inl, inr, ⊎_elim, arith}
 use Rattle.std.proofs.lemmas.Bool.{cases_eq, cases_lt, cases_order, eq-eqb, ne_eqb, lt-ltb, le-ltb, ltb-true, cond-true, cond-false}
 use Rattle.device.specs.declared.types.Device.{Device}
 use Rattle.device.specs.Devices.{kind_of, place_of}
 use Rattle.device.proofs.Places.{place_one}
 use Rattle.memory.specs.Meaning.{value_limit, put, written, write_answer}
 use Rattle.memory.specs.Layout.{start, room, width, extent_in, index_of}
-use Rattle.memory.specs.Stored.{point_in, with_point, value_in, stored, units_after, admitted}
-use Rattle.memory.specs.Kept.{Kept, kept_same}
+use Rattle.memory.specs.Stored.{point_in, with_point, value_in, stored, units_after, admitted, PointPut, units_put}
+use Rattle.memory.specs.Leaving.{Write, Leads}
+use Rattle.memory.specs.Kept.{Kept}
 use Rattle.memory.specs.declared.layout.Form.{Form}
 use Rattle.memory.specs.declared.refusal.Refusal.{Refusal}
 use Rattle.memory.specs.declared.refusal.Refusal.TheVariants.{Outside, Closed, TooWide}
@@ -72,11 +73,9 @@ module _ (f : Form) (us es : List ℕ) (d : Device) (n v : ℕ) (h : n < extent_
   pub written_in : stored f after es ≡ written (Ok tt) (stored f us es) d n v
   written_in i = record { extent = extent_in es; value = λ e k. put_in e k i; opened = λ e k. ltb k (extent_in es e) }
 
-  pub kept_in : (a : ℕ) → Kept f a es us a es after
-  kept_in a =
+  pub kept_in : Kept f es us after
+  kept_in =
       record {
-        place = refl;
-        extents = refl;
         long = with_long f (kind_of d) us (index_of f es d n) n v;
         spare = λ j k b s. unheld f (kind_of d) us (index_of f es d n) n v j k enough narrow b (λ o. s d n h o);
       }
@@ -104,12 +103,47 @@ module _ (f : Form) (us es : List ℕ) (d : Device) (n v : ℕ) (fits : room f e
   meaning_after (Ok _) e = let w = went e in written_in f us es d n v w.0 fits w.1
   meaning_after (Err x) e = refl
 
-  kept_after : (a : ℕ) (q : Result (Unit {0}) Refusal) → r ≡ q → Kept f a es us a es (units_after f q us es d n v)
-  kept_after a (Ok _) e = let w = went e in kept_in f us es d n v w.0 fits w.1 a
-  kept_after a (Err x) e = kept_same f a es us
+  kept_after : (q : Result (Unit {0}) Refusal) → r ≡ q → Kept f es us (units_after f q us es d n v)
+  kept_after (Ok _) e = let w = went e in kept_in f us es d n v w.0 fits w.1
+  kept_after (Err x) e = record { long = refl; spare = λ j k b s. refl }
 
   pub wrote_meaning : {es' us' : List ℕ} → es' ≡ es → us' ≡ units_after f r us es d n v → stored f us' es' ≡ written r (stored f us es) d n v
   wrote_meaning p q = rw (p, q) (meaning_after r refl)
 
-  pub wrote_kept : {a a' : ℕ} {es' us' : List ℕ} → a' ≡ a → es' ≡ es → us' ≡ units_after f r us es d n v → Kept f a es us a' es' us'
-  wrote_kept {a} o p q = rw (o, p, q) (kept_after a r refl)
+-- a write that was answered so keeps what holds no point
+pub wrote_kept : (f : Form) (us es : List ℕ) (d : Device) (n v : ℕ) → room f es ≤ length us → (r : Result (Unit {0}) Refusal) → r ≡ write_answer (stored f us es) d n v
+    → {us' : List ℕ} → us' ≡ units_after f r us es d n v → Kept f es us us'
+wrote_kept f us es d n v fits r answer e =
+    let admits : r ≡ admitted d (extent_in es d) n v = answer ∙ sym (never_closed (ltb n (extent_in es d)) _ _ _) in
+    rw e (kept_after f us es d n v fits r admits r refl)
+
+-- the same with the units and the extents before under other names
+pub kept_as : (f : Form) {es es' us us' vs : List ℕ} → es ≡ es' → us ≡ us' → Kept f es us vs → Kept f es' us' vs
+kept_as f {es = es} {us' = us'} {vs = vs} p q k = subst (λ e. Kept f e us' vs) p (subst (λ u. Kept f es u vs) q k)
+
+kept_on : (f : Form) (es us vs ws : List ℕ) → Kept f es us vs → Kept f es vs ws → Kept f es us ws
+kept_on f es us vs ws x y = record { long = y.long ∙ x.long; spare = λ j k b s. y.spare j k b s ∙ x.spare j k b s }
+
+-- writes that were carried out one after the other: they leave the place, the extents, exactly the units that they make, and whatever holds no point
+pub record AllPut (f : Form) (a : ℕ) (es us : List ℕ) (ws : List Write) (a' : ℕ) (es' us' : List ℕ) : Type 0 where
+  pub place : a' ≡ a
+  pub extents : es' ≡ es
+  pub units : us' ≡ units_put f es us ws
+  pub kept : Kept f es us us'
+
+pub all_put : {S : Type 0} (f : Form) (name : S → ℕ) (es ss us : S → List ℕ) → ((s : S) → room f (es s) ≤ length (us s)) → (ws : List Write) (s t : S)
+    → Leads (λ s d n v t. PointPut f d n v (name s) (es s) (ss s) (us s) (name t) (es t) (ss t) (us t)) s ws t
+    → AllPut f (name s) (es s) (us s) ws (name t) (es t) (us t)
+all_put f name es ss us fits [] s t e =
+    record { place = ap name e; extents = ap es e; units = ap us e; kept = subst (Kept f (es s) (us s)) (sym (ap us e)) (record { long = refl; spare = λ j k b s. refl }) }
+all_put f name es ss us fits (w ∷ ws) s t e =
+    let p = e.1 in
+    let r = all_put f name es ss us fits ws e.0 t e.2 in
+    let one : Kept f (es s) (us s) (us e.0) = subst (Kept f (es s) (us s)) (sym p.units) (kept_in f (us s) (es s) w.0 w.1 w.2 p.inside (fits s) p.narrow) in
+    let rest : Kept f (es s) (us e.0) (us t) = subst (λ x. Kept f x (us e.0) (us t)) p.extents r.kept in
+    record {
+      place = r.place ∙ p.place;
+      extents = r.extents ∙ p.extents;
+      units = r.units ∙ (λ i. units_put f (p.extents i) (p.units i) ws);
+      kept = kept_on f (es s) (us s) (us e.0) (us t) one rest;
+    }

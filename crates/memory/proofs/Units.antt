@@ -12,10 +12,10 @@ use Rattle.memory.specs.declared.layout.Form.TheVariants.{Packed, Image}
 use Rattle.memory.proofs.Bitwise.{bit_own, bit_other}
 
 -- what stands at a place after a write, here and elsewhere
-here : (us : List ℕ) (i v : ℕ) → i < length us → get_or (set us i v) i 0 ≡ v
+pub here : (us : List ℕ) (i v : ℕ) → i < length us → get_or (set us i v) i 0 ≡ v
 here us i v h = rw get_or-set_same
 
-there : (us : List ℕ) (i v j : ℕ) → (j ≡ i → ⊥) → get_or (set us i v) j 0 ≡ get_or us j 0
+pub there : (us : List ℕ) (i v j : ℕ) → (j ≡ i → ⊥) → get_or (set us i v) j 0 ≡ get_or us j 0
 there us i v j ne = let n : j ≢ i = ne in rw get_or-set_other
 
 pub with_long : (f : Form) (κ : Kind) (us : List ℕ) (i n v : ℕ) → length (with_point f κ us i n v) ≡ length us

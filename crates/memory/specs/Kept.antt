@@ -1,6 +1,6 @@
--- What every call to a storage keeps: where it lies, its extents, its length, and whatever of it holds no point.
-use Rattle.std.specs.Prelude.{◌≡◌, ℕ, ◌+◌, ◌%◌, ◌<◌, Bool, true, false, cond, ◌⊎◌, List, length, ◌==◌, nat_lt, slice_index, refl}
-use Rattle.std.proofs.Common.{◌∙◌, arith}
+-- What writes to a storage keep: its length, and whatever of it holds no point.
+use Rattle.std.specs.Prelude.{◌≡◌, ℕ, ◌+◌, ◌%◌, ◌<◌, Bool, true, false, cond, ◌⊎◌, List, length, ◌==◌, nat_lt, slice_index}
+use Rattle.std.proofs.Common.{arith}
 use Rattle.std.proofs.lemmas.Bool.{le-ltb}
 use Rattle.device.specs.declared.types.Device.{Device}
 use Rattle.device.specs.declared.types.Kind.{Kind}
@@ -34,24 +34,10 @@ Holds Image Word i n j k = (j ≡ i) ⊎ (j ≡ i + 1)
 abbrev pub Spare : Form → List ℕ → ℕ → ℕ → Type 0
 Spare f es j k = (d : Device) (n : ℕ) → n < extent_in es d → Holds f (kind_of d) (index_of f es d n) n j k → ⊥
 
--- of a storage's name, extents and units, before and after
-pub record Kept (f : Form) (a : ℕ) (es us : List ℕ) (a' : ℕ) (es' us' : List ℕ) : Type 0 where
-  pub place : a' ≡ a
-  pub extents : es' ≡ es
+-- of a storage's units, before and after
+pub record Kept (f : Form) (es us us' : List ℕ) : Type 0 where
   pub long : length us' ≡ length us
   pub spare : (j k : ℕ) → k < cells f → Spare f es j k → cell f (slice_index us' j) k ≡ cell f (slice_index us j) k
-
-pub kept_same : (f : Form) (a : ℕ) (es us : List ℕ) → Kept f a es us a es us
-kept_same f a es us = record { place = refl; extents = refl; long = refl; spare = λ j k h s. refl }
-
-pub kept_on : (f : Form) {a a' a'' : ℕ} {es es' es'' us us' us'' : List ℕ} → Kept f a es us a' es' us' → Kept f a' es' us' a'' es'' us'' → Kept f a es us a'' es'' us''
-kept_on f x y =
-    record {
-      place = y.place ∙ x.place;
-      extents = y.extents ∙ x.extents;
-      long = y.long ∙ x.long;
-      spare = λ j k h s. y.spare j k h (rw x.extents s) ∙ x.spare j k h s;
-    }
 
 narrow_or : (b : Bool) (x : ℕ) → x < 2 → cond b x 0 < 2
 narrow_or true x h = h
@@ -68,14 +54,11 @@ point_narrow Image Bit us i n e = flag (slice_index us i == 0)
 point_narrow Image Word us i n e = let z : ◌≡◌ {A = ℕ} 0 1 = cc in omega arith
 
 -- a memory whose points lie in a storage is a sound one
-pub stored_sound : {S : Type 0} (f : Form) (a : S → ℕ) (es us : S → List ℕ) → ((s : S) → Small (es s))
-    → Sound (λ s. stored f (us s) (es s)) (λ s t. Kept f (a s) (es s) (us s) (a t) (es t) (us t))
-stored_sound f a es us small =
+pub stored_sound : {S : Type 0} (f : Form) (es us : S → List ℕ) → ((s : S) → Small (es s)) → Sound (λ s. stored f (us s) (es s))
+stored_sound f es us small =
     record {
       small = small;
       narrow = λ s d n e. narrow_or (nat_lt n (extent_in (es s) d)) _ (point_narrow f (kind_of d) (us s) (index_of f (es s) d n) n e);
       outside = λ s d n h. rw (le-ltb n (extent_in (es s) d) h);
       shut = λ s d n h. le-ltb n (extent_in (es s) d) h;
-      kept_same = λ s. kept_same f (a s) (es s) (us s);
-      kept_on = λ s t u x y. kept_on f x y;
     }

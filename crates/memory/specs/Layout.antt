@@ -1,5 +1,5 @@
 -- Where the points lie in a storage of units, 16-bit words or bytes.
-use Rattle.std.specs.Prelude.{ℕ, zero, suc, ◌+◌, ◌*◌, ◌/◌, List, slice_index}
+use Rattle.std.specs.Prelude.{◌≡◌, ℕ, zero, suc, ◌+◌, ◌*◌, ◌/◌, ◌≤◌, List, slice_index}
 use Rattle.device.specs.declared.types.Device.{Device}
 use Rattle.device.specs.declared.types.Kind.{Kind}
 use Rattle.device.specs.declared.types.Kind.TheVariants.{Bit, Word}
@@ -35,6 +35,10 @@ start f es (suc p) = start f es p + units_for f (kind_of (device_at_place p)) (s
 -- all the units
 abbrev pub room : Form → List ℕ → ℕ
 room f es = start f es 12
+
+-- the numbers say where the units of each device begin, in the order of the places, and behind the last device where they end
+abbrev pub AreStarts : Form → List ℕ → List ℕ → Type 0
+AreStarts f es ss = (p : ℕ) → p ≤ 12 → slice_index ss p ≡ start f es p
 
 -- the extent of a device, by the extents in the order of the places
 abbrev pub extent_in : List ℕ → Device → ℕ

@@ -1,5 +1,6 @@
 pub mod Refusals
 pub mod Meaning
+pub mod Leaving
 pub mod Layout
 pub mod Stored
 pub mod Making

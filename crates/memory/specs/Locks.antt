@@ -6,7 +6,7 @@ use Rattle.device.specs.declared.types.Device.{Device}
 use Rattle.device.specs.declared.types.Device.TheVariants.{M}
 use Rattle.device.specs.Devices.{place_of}
 use Rattle.memory.specs.Meaning.{Meaning}
-use Rattle.memory.specs.declared.locked.Range.{Range}
+use Rattle.memory.specs.declared.locks.Range.{Range}
 use Rattle.memory.specs.declared.refusal.Refusal.{Refusal}
 use Rattle.memory.specs.declared.refusal.Refusal.TheVariants.{NoLock}
 

@@ -44,11 +44,9 @@ abbrev pub written : Result (Unit {0}) Refusal → Meaning → Device → ℕ �
 written (Ok _) m d n v = record { extent = m.extent; value = put m.value d n v; opened = m.opened }
 written (Err _) m d n v = m
 
--- no extent passes its limit, a bit point holds 0 or 1, outside no value stands and no point is open, and what is kept is kept over any number of calls
-pub record Sound {S : Type 0} (means : S → Meaning) (keeps : S → S → Type 0) : Type 0 where
+-- no extent passes its limit, a bit point holds 0 or 1, and outside no value stands and no point is open
+pub record Sound {S : Type 0} (means : S → Meaning) : Type 0 where
   pub small : (s : S) (d : Device) → (means s).extent d ≤ extent_limit d
   pub narrow : (s : S) (d : Device) (n : ℕ) → kind_of d ≡ Bit → (means s).value d n < 2
   pub outside : (s : S) (d : Device) (n : ℕ) → (means s).extent d ≤ n → (means s).value d n ≡ 0
   pub shut : (s : S) (d : Device) (n : ℕ) → (means s).extent d ≤ n → (means s).opened d n ≡ false
-  pub kept_same : (s : S) → keeps s s
-  pub kept_on : (s t u : S) → keeps s t → keeps t u → keeps s u

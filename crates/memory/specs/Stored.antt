@@ -1,10 +1,11 @@
 -- What the points of a storage hold by its units, and what a write to a point leaves of them.
-use Rattle.std.specs.Prelude.{ℕ, ◌+◌, ◌-◌, ◌*◌, ◌/◌, ◌%◌, ◌^◌, cond, List, Ok, Err, Result, ◌==◌, bit_and, bit_or, nat_lt, slice_index, slice_set}
+use Rattle.std.specs.Prelude.{◌≡◌, ℕ, ◌+◌, ◌-◌, ◌*◌, ◌/◌, ◌%◌, ◌^◌, ◌<◌, cond, List, [], ◌∷◌, Ok, Err, Result, ◌==◌, bit_and, bit_or, nat_lt, slice_index, slice_set}
 use Rattle.device.specs.declared.types.Device.{Device}
 use Rattle.device.specs.declared.types.Kind.{Kind}
 use Rattle.device.specs.declared.types.Kind.TheVariants.{Bit, Word}
 use Rattle.device.specs.Devices.{kind_of}
 use Rattle.memory.specs.Meaning.{Meaning, value_limit}
+use Rattle.memory.specs.Leaving.{Write}
 use Rattle.memory.specs.Layout.{extent_in, index_of}
 use Rattle.memory.specs.declared.layout.Form.{Form}
 use Rattle.memory.specs.declared.layout.Form.TheVariants.{Packed, Image}
@@ -61,6 +62,21 @@ stored f us es = record { extent = extent_in es; value = value_in f us es; opene
 abbrev pub units_after : Form → Result (Unit {0}) Refusal → List ℕ → List ℕ → Device → ℕ → ℕ → List ℕ
 units_after f (Ok _) us es d n v = with_point f (kind_of d) us (index_of f es d n) n v
 units_after f (Err _) us es d n v = us
+
+-- of a storage's place, extents, starts and units, before and after: a point inside was given a value that its kind can hold, the units are exactly
+-- those that the value makes of them, and nothing else is new
+pub record PointPut (f : Form) (d : Device) (n v a : ℕ) (es ss us : List ℕ) (a' : ℕ) (es' ss' us' : List ℕ) : Type 0 where
+  pub inside : n < extent_in es d
+  pub narrow : v < value_limit (kind_of d)
+  pub place : a' ≡ a
+  pub extents : es' ≡ es
+  pub starts : ss' ≡ ss
+  pub units : us' ≡ with_point f (kind_of d) us (index_of f es d n) n v
+
+-- the units once all writes are made, one after the other
+abbrev pub units_put : Form → List ℕ → List ℕ → List Write → List ℕ
+units_put f es us [] = us
+units_put f es us (w ∷ ws) = units_put f es (with_point f (kind_of w.0) us (index_of f es w.0 w.1) w.1 w.2) ws
 
 -- what a write answers where every point is open
 abbrev pub admitted : Device → ℕ → ℕ → ℕ → Result (Unit {0}) Refusal

@@ -1,5 +1,5 @@
 // A byte image: the points in the caller's lent bytes.
-ghost use Rattle.std.specs.Prelude.{◌≡◌, ◌+◌, ◌*◌, ◌<◌, ◌≤◌, length, refl};
+ghost use Rattle.std.specs.Prelude.{◌≡◌, ◌+◌, ◌<◌, ◌≤◌, length, refl};
 ghost use Rattle.memory.specs.Layout.{width};
 ghost use Rattle.memory.specs.Making.{needed, making};
 ghost use Rattle.memory.specs.Stored.{byte_part};

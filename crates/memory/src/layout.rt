@@ -1,9 +1,8 @@
 // Where the points lie in a storage of units: 16-bit words for packed tables, bytes for an image.
-// Form and extents stay apart here: the definitions take both, and a storage keeps its extents alone, since its unit gives the form.
-ghost use Rattle.std.specs.Prelude.{◌≡◌, ◌+◌, ◌*◌, ◌^◌, ◌<◌, ◌≤◌, true, false, nat_le};
-ghost use Rattle.device.specs.Devices.{kind_of, device_at_place};
+// Form and extents stay apart here: the definitions take both, and a storage's unit gives its form.
+ghost use Rattle.std.specs.Prelude.{◌≡◌, ◌+◌, ◌*◌, ◌^◌, ◌<◌, ◌≤◌};
 ghost use Rattle.memory.specs.Meaning.{extent_limit};
-ghost use Rattle.memory.specs.Layout.{units_for, unit_of, width, start, room, extent_in, index_of};
+ghost use Rattle.memory.specs.Layout.{units_for, unit_of, room, AreStarts};
 ghost use Rattle.memory.specs.Making.{Small, small_below, is_fit, needed, making, made_of};
 ghost use Rattle.memory.specs.Stored.{admitted};
 
@@ -33,7 +32,7 @@ fn units_for(form: Form, kind: Kind, points: u32) -> usize
 }
 
 // The first unit of a point, counted from its device's first. As many units lie before it as the points before it take, but for bits that share a word.
-fn unit_of(form: Form, kind: Kind, number: u32) -> usize
+pub(crate) fn unit_of(form: Form, kind: Kind, number: u32) -> usize
     ensures value { result ≡ unit_of form kind number }
     ensures bound { result ≤ 2 ^ 33 }
 {
@@ -43,25 +42,17 @@ fn unit_of(form: Form, kind: Kind, number: u32) -> usize
     }
 }
 
-// The first unit of the device at a place.
-fn start_of(form: Form, extents: &[u32; 12], place: usize) -> usize
-    requires { place ≤ 12 }
-    ensures value { result ≡ start form extents.now place }
-    ensures bound { result ≤ 2 ^ 33 * place }
+// Where the units of each device begin, in the order of the table, and behind the last device where they end.
+#[inline(always)]
+pub(crate) fn starts_of(form: Form, extents: &[u32; 12]) -> [usize; 13]
+    ensures { AreStarts form extents.now result }
 {
-    DEVICES[..place]
-        .iter()
-        .zip(extents)
-        .map(|(row, points)| units_for(form, row.kind, *points))
-        .sum()
-}
-
-// The first unit of a point.
-pub(crate) fn index_of(form: Form, extents: &[u32; 12], device: Device, number: u32) -> usize
-    ensures value { result ≡ index_of form extents.now device number }
-    ensures within { number < extent_in extents.now device → result + width form (kind_of device) ≤ room form extents.now }
-{
-    start_of(form, extents, device.place()) + unit_of(form, device.kind(), number)
+    let mut starts = [0; 13];
+    // By index: each device begins where the one before it ends.
+    for place in 0..12usize {
+        starts[place + 1] = starts[place] + units_for(form, DEVICES[place].kind, extents[place]);
+    }
+    starts
 }
 
 // The largest extent that a device may have.
@@ -86,7 +77,7 @@ pub(crate) fn units_needed(form: Form, extents: &[u32; 12]) -> Result<usize, Ref
     ensures { result ≡ needed form extents.now }
 {
     if all_small(extents) {
-        Ok(start_of(form, extents, 12))
+        Ok(starts_of(form, extents)[12])
     } else {
         Err(Refusal::NoRoom)
     }
@@ -110,16 +101,19 @@ pub(crate) fn making(form: Form, extents: &[u32; 12], units: usize) -> Result<()
     }
 }
 
-// The extents of what is made over so many units: no points at all where they do not fit.
-pub(crate) fn made_extents(form: Form, extents: [u32; 12], units: usize) -> [u32; 12]
-    ensures value { result ≡ made_of form extents units }
-    ensures small { Small result }
-    ensures fits { room form result ≤ units }
+// The extents of what is made over so many units, no points at all where they do not fit, and where their units begin.
+#[inline(always)]
+pub(crate) fn made(form: Form, extents: [u32; 12], units: usize) -> ([u32; 12], [usize; 13])
+    ensures extents { result.0 ≡ made_of form extents units }
+    ensures starts { AreStarts form result.0 result.1 }
+    ensures small { Small result.0 }
+    ensures fits { room form result.0 ≤ units }
 {
-    if is_fit(form, &extents, units) {
-        extents
+    let starts = starts_of(form, &extents);
+    if all_small(&extents) && starts[12] <= units {
+        (extents, starts)
     } else {
-        [0; 12]
+        ([0; 12], starts_of(form, &[0; 12]))
     }
 }
 

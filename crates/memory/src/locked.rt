@@ -1,66 +1,26 @@
-// The calibration lock: a layer over a memory that closes ranges of its points.
-ghost use Rattle.std.specs.Prelude.{◌≡◌, ◌&&◌, [], nat_lt, refl};
-ghost use Rattle.std.proofs.Common.{◌∙◌};
-ghost use Rattle.memory.specs.Locks.{covers, is_locked, no_range, lock_answer, locks_after, under, shut_under};
+// The calibration lock: a layer over a memory that closes ranges of its points. The ranges are fixed at its making.
+ghost use Rattle.std.specs.Prelude.{◌≡◌, ◌&&◌, nat_lt};
+ghost use Rattle.memory.specs.Locks.{is_locked, under, shut_under};
 
+use crate::locks::Locks;
 use crate::refusal::Refusal;
 use crate::traits::{ReadableMemory, WritableMemory};
-use arrayvec::ArrayVec;
 use device::Device;
 
-// The numbers of a device from the first to the last, both among them.
-#[derive(Clone, Copy, PartialEq, Eq, Debug)]
-pub struct Range {
-    pub device: Device,
-    pub first: u32,
-    pub last: u32,
-}
-
-impl Range {
-    fn covers(self, device: Device, number: u32) -> bool
-        ensures { result ≡ covers self device number }
-    {
-        self.device == device && self.first <= number && number <= self.last
-    }
-}
-
-// A vector of fixed room fills the places behind its end with this value; no call reads them.
-impl Default for Range {
-    ghost is_default = { λ r. r ≡ no_range };
-
-    fn default() -> Range {
-        Range {
-            device: Device::M,
-            first: 0,
-            last: 0,
-        }
-    }
-}
-
-// Whether a point lies in one of the ranges.
-fn is_locked(ranges: &[Range], device: Device, number: u32) -> bool
-    ensures { result ≡ is_locked ranges.now device number }
-{
-    ranges.iter().any(|range| range.covers(device, number))
-}
-
-// Up to sixteen locks, which may overlap and reach past the extent.
+// A memory under locks. No call adds a range.
 #[derive(Drop)]
 pub struct Locked<M> {
     below: M,
-    ranges: ArrayVec<Range, 16>,
+    locks: Locks,
 }
 
 impl<M: WritableMemory> Locked<M> {
-    // The memory with no locks.
-    pub fn new(below: M) -> Locked<M>
+    // Puts the memory under these locks: what lies in a range of theirs is closed, and all else is as it is below.
+    pub fn new(below: M, locks: Locks) -> Locked<M>
         ensures below { result.below ≡ below }
-        ensures locks { result.ranges.items ≡ [] }
+        ensures locks { result.locks ≡ locks }
     {
-        Locked {
-            below,
-            ranges: ArrayVec::new(),
-        }
+        Locked { below, locks }
     }
 
     // The memory below.
@@ -70,33 +30,19 @@ impl<M: WritableMemory> Locked<M> {
         &self.below
     }
 
-    // Gives the memory back.
-    pub fn into_below(self) -> M
-        ensures { result ≡ self.below }
+    // Gives the memory and the locks back.
+    pub fn into_parts(self) -> (M, Locks)
+        ensures below { result.0 ≡ self.below }
+        ensures locks { result.1 ≡ self.locks }
     {
-        self.below
-    }
-
-    // Locks one more range; refuses a seventeenth, and a last number before the first, and changes nothing then.
-    pub fn lock(&mut self, range: Range) -> Result<(), Refusal>
-        ensures answer { result ≡ lock_answer self.old.ranges.items range }
-        ensures locks { self.new.ranges.items ≡ locks_after result self.old.ranges.items range }
-        ensures below { self.new.below ≡ self.old.below }
-    {
-        if self.ranges.is_full() || range.first > range.last {
-            return Err(Refusal::NoLock);
-        }
-        self.ranges.push(range);
-        Ok(())
+        (self.below, self.locks)
     }
 }
 
 impl<M: ReadableMemory> ReadableMemory for Locked<M> {
-    ghost means = { λ s. under s.ranges.items (M.ReadableMemory.means s.below) };
+    ghost means = { λ s. under s.locks.ranges.items (M.means s.below) };
 
-    ghost keeps = { λ s t. M.ReadableMemory.keeps s.below t.below × (t.ranges ≡ s.ranges) };
-
-    ghost sound = { record { small = λ s. M.ReadableMemory.sound.small s.below; narrow = λ s. M.ReadableMemory.sound.narrow s.below; outside = λ s. M.ReadableMemory.sound.outside s.below; shut = λ s d n h. shut_under s.ranges.items (M.ReadableMemory.means s.below) d n (M.ReadableMemory.sound.shut s.below d n h); kept_same = λ s. (M.ReadableMemory.sound.kept_same s.below, refl); kept_on = λ s t u x y. (M.ReadableMemory.sound.kept_on s.below t.below u.below x.0 y.0, y.1 ∙ x.1) } };
+    ghost sound = { record { small = λ s. M.sound.small s.below; narrow = λ s. M.sound.narrow s.below; outside = λ s. M.sound.outside s.below; shut = λ s d n h. shut_under s.locks.ranges.items (M.means s.below) d n (M.sound.shut s.below d n h) } };
 
     fn extent(&self, device: Device) -> u32 {
         self.below.extent(device)
@@ -110,15 +56,17 @@ impl<M: ReadableMemory> ReadableMemory for Locked<M> {
 impl<M: WritableMemory> Locked<M> {
     // Whether a point inside is locked.
     fn is_shut(&self, device: Device, number: u32) -> bool
-        ensures { result ≡ (nat_lt number ((M.ReadableMemory.means self.now.below).extent device) && is_locked self.now.ranges.items device number) }
+        ensures { result ≡ (nat_lt number ((M.means self.now.below).extent device) && is_locked self.now.locks.ranges.items device number) }
     {
-        number < self.below.extent(device) && is_locked(&self.ranges, device, number)
+        number < self.below.extent(device) && self.locks.covers(device, number)
     }
 }
 
 impl<M: WritableMemory> WritableMemory for Locked<M> {
+    ghost leaves = { λ s d n v t. M.leaves s.below d n v t.below × (t.locks ≡ s.locks) };
+
     fn is_open(&self, device: Device, number: u32) -> bool {
-        self.below.is_open(device, number) && !is_locked(&self.ranges, device, number)
+        self.below.is_open(device, number) && !self.locks.covers(device, number)
     }
 
     fn write(&mut self, device: Device, number: u32, value: u16) -> Result<(), Refusal> {

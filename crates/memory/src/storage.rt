@@ -1,14 +1,14 @@
 // A storage: the points in the caller's lent units, which are 16-bit words or bytes.
 ghost use Rattle.std.specs.Prelude.{◌≡◌, ℕ, ◌+◌, ◌<◌, ◌≤◌, List, length};
 ghost use Rattle.device.specs.Devices.{kind_of};
-ghost use Rattle.memory.specs.Meaning.{value_limit, write_answer, written};
-ghost use Rattle.memory.specs.Layout.{width, room};
+ghost use Rattle.memory.specs.Meaning.{value_limit};
+ghost use Rattle.memory.specs.Layout.{width, room, extent_in, index_of, AreStarts};
 ghost use Rattle.memory.specs.Making.{Small, made_of};
-ghost use Rattle.memory.specs.Stored.{point_in, with_point, stored, units_after};
-ghost use Rattle.memory.specs.Kept.{Kept, stored_sound};
+ghost use Rattle.memory.specs.Stored.{point_in, with_point, stored, PointPut};
+ghost use Rattle.memory.specs.Kept.{stored_sound};
 ghost use Rattle.memory.specs.declared.layout.Form.{Form as Held};
 
-use crate::layout::{Form, admit, index_of, made_extents};
+use crate::layout::{Form, admit, made, unit_of};
 use crate::refusal::Refusal;
 use crate::traits::{ReadableMemory, WritableMemory};
 use device::{Device, Kind};
@@ -43,6 +43,9 @@ pub struct Storage<'a, U: Unit> {
     units: &'a mut [U],
     // One number for each device, in the order of the table: an array, since every device has one and there are always twelve.
     extents: [u32; 12],
+    // Where the units of each device begin, and behind the last device where they end: what the extents say, found once.
+    starts: [usize; 13],
+    ghost begun: { AreStarts U.FORM extents starts },
     ghost small: { Small extents },
     ghost fits: { room U.FORM extents ≤ length (U.numbers units.now) },
 }
@@ -54,8 +57,20 @@ impl<'a, U: Unit> Storage<'a, U> {
         ensures name { result.units.ghost_name ≡ units.entry.ghost_name }
         ensures extents { result.extents ≡ made_of U.FORM extents (length units.old) }
     {
-        let extents = made_extents(U::FORM, extents, units.len());
-        Storage { units, extents }
+        let (extents, starts) = made(U::FORM, extents, units.len());
+        Storage {
+            units,
+            extents,
+            starts,
+        }
+    }
+
+    // The first unit of a point.
+    fn index_of(&self, device: Device, number: u32) -> usize
+        ensures value { result ≡ index_of U.FORM self.now.extents device number }
+        ensures within { number < extent_in self.now.extents device → result + width U.FORM (kind_of device) ≤ length (U.numbers self.now.units.now) }
+    {
+        self.starts[device.place()] + unit_of(U::FORM, device.kind(), number)
     }
 }
 
@@ -80,9 +95,7 @@ impl<'a> Storage<'a, u8> {
 impl<'a, U: Unit> ReadableMemory for Storage<'a, U> {
     ghost means = { λ s. stored U.FORM (U.numbers s.units.now) s.extents };
 
-    ghost keeps = { λ s t. Kept U.FORM s.units.ghost_name s.extents (U.numbers s.units.now) t.units.ghost_name t.extents (U.numbers t.units.now) };
-
-    ghost sound = { stored_sound U.FORM (λ s. s.units.ghost_name) (λ s. s.extents) (λ s. U.numbers s.units.now) (λ s. s.small) };
+    ghost sound = { stored_sound U.FORM (λ s. s.extents) (λ s. U.numbers s.units.now) (λ s. s.small) };
 
     fn extent(&self, device: Device) -> u32 {
         self.extents[device.place()]
@@ -93,24 +106,21 @@ impl<'a, U: Unit> ReadableMemory for Storage<'a, U> {
         if number >= self.extent(device) {
             return None;
         }
-        let at = index_of(U::FORM, &self.extents, device, number);
+        let at = self.index_of(device, number);
         Some(U::point(self.units, at, device.kind(), number))
     }
 }
 
 impl<'a, U: Unit> WritableMemory for Storage<'a, U> {
+    ghost leaves = { λ s d n v t. PointPut U.FORM d n v s.units.ghost_name s.extents s.starts (U.numbers s.units.now) t.units.ghost_name t.extents t.starts (U.numbers t.units.now) };
+
     fn is_open(&self, device: Device, number: u32) -> bool {
         number < self.extent(device)
     }
 
-    fn write(&mut self, device: Device, number: u32, value: u16) -> Result<(), Refusal>
-        ensures answer { result ≡ write_answer (stored U.FORM (U.numbers self.old.units.now) self.old.extents) device number value }
-        ensures meaning { stored U.FORM (U.numbers self.new.units.now) self.new.extents ≡ written result (stored U.FORM (U.numbers self.old.units.now) self.old.extents) device number value }
-        ensures keeps { Kept U.FORM self.old.units.ghost_name self.old.extents (U.numbers self.old.units.now) self.new.units.ghost_name self.new.extents (U.numbers self.new.units.now) }
-        ensures units { U.numbers self.new.units.now ≡ units_after U.FORM result (U.numbers self.old.units.now) self.old.extents device number value }
-    {
+    fn write(&mut self, device: Device, number: u32, value: u16) -> Result<(), Refusal> {
         admit(device, self.extent(device), number, value)?;
-        let at = index_of(U::FORM, &self.extents, device, number);
+        let at = self.index_of(device, number);
         U::put(self.units, at, device.kind(), number, value);
         Ok(())
     }

@@ -1,6 +1,7 @@
 // What a device memory is: extents, values, and which points are open to writing.
 ghost use Rattle.std.specs.Prelude.{◌≡◌};
 ghost use Rattle.memory.specs.Meaning.{Meaning, Sound, told, write_answer, written};
+ghost use Rattle.memory.specs.Leaving.{Leaving, LeftBy};
 
 use crate::refusal::Refusal;
 use device::Device;
@@ -12,11 +13,8 @@ pub trait ReadableMemory {
     // an extent for each device, a value for each point, and for each point whether it is open to writing
     ghost means: { Self → Meaning };
 
-    // what no call changes, of the memory before and after it: where the storage lies, its layout, and whatever of it holds no point
-    ghost keeps: { Self → Self → Type 0 };
-
-    // what the members above are like in every memory
-    ghost sound: { Sound means keeps };
+    // what meanings are like in every memory
+    ghost sound: { Sound means };
 
     fn extent(&self, device: Device) -> u32
         ensures { result ≡ (means self.now).extent device };
@@ -28,13 +26,16 @@ pub trait ReadableMemory {
 
 // A memory that can also be written.
 pub trait WritableMemory: ReadableMemory {
+    // what a write that is carried out leaves of the memory itself, to the last byte
+    ghost leaves: { Leaving Self };
+
     // Whether the point is open; never outside.
     fn is_open(&self, device: Device, number: u32) -> bool
-        ensures { result ≡ (Self.ReadableMemory.means self.now).opened device number };
+        ensures { result ≡ (Self.means self.now).opened device number };
 
-    // Gives the point the value; refuses a point outside, then a closed one, then a value too wide, and changes nothing then.
+    // Gives the point the value; refuses a point outside, then a closed one, then a value too wide, and then leaves the memory that was there.
     fn write(&mut self, device: Device, number: u32, value: u16) -> Result<(), Refusal>
-        ensures answer { result ≡ write_answer (Self.ReadableMemory.means self.old) device number value }
-        ensures meaning { Self.ReadableMemory.means self.new ≡ written result (Self.ReadableMemory.means self.old) device number value }
-        ensures keeps { Self.ReadableMemory.keeps self.old self.new };
+        ensures answer { result ≡ write_answer (Self.means self.old) device number value }
+        ensures meaning { Self.means self.new ≡ written result (Self.means self.old) device number value }
+        ensures left { LeftBy leaves result self.old device number value self.new };
 }

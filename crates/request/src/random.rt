@@ -1,5 +1,5 @@
 // Lists of entries, each with a device and a number of its own.
-ghost use Rattle.std.specs.Prelude.{◌≡◌, ℕ, ◌+◌, ◌*◌, ◌^◌, ◌<◌, ◌≤◌, Bool, length, Ok, Result, IfOk};
+ghost use Rattle.std.specs.Prelude.{◌≡◌, ℕ, ◌+◌, ◌*◌, ◌<◌, ◌≤◌, Bool, length, Ok, Result, IfOk};
 ghost use Rattle.wire.specs.Numbers.{then, per_byte};
 ghost use Rattle.frame.specs.declared.fault.Fault.{Fault};
 ghost use Rattle.request.specs.Fields.{Reads, ReadsWithin};

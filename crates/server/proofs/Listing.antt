@@ -4,16 +4,18 @@ use Rattle.std.proofs.lemmas.List.{length-map, take-map, drop-map, drop_all}
 use borrow.Rule.Slice.PartMut.{put_mid, post_of}
 use lib.Seq.{sets, sets-eq}
 use Rattle.device.specs.declared.types.Device.{Device}
+use Rattle.device.specs.declared.types.Device.TheVariants.{M}
 use Rattle.device.specs.Devices.{kind_of}
+use Rattle.memory.specs.Leaving.{Write}
 use Rattle.wire.specs.declared.code.Code.{Code}
 use Rattle.wire.specs.declared.code.FieldFault.{FieldFault}
 use Rattle.server.specs.declared.registration.Access.{Access}
-use Rattle.server.specs.Registered.{accesses}
+use Rattle.server.specs.Registered.{accesses, device_and_number}
 use Rattle.request.specs.Requests.{Setting}
 use Rattle.request.specs.Fields.{bit_in, bits_in, list_in}
 use Rattle.request.specs.Limits.{points}
 use Rattle.server.proofs.Shows.{step_on}
-use Rattle.server.specs.Writes.{Write, as_point, in_row, as_word, as_words, each}
+use Rattle.server.specs.Writes.{as_point, in_row, as_word, as_words, each}
 
 -- one point more of bit data
 pub bits_more : (code : Code) (xs : List ℕ) (d : Device) (n count i : ℕ) → i < count
@@ -34,8 +36,9 @@ words_more d n i v vs ws e =
 pub each_more : (f : Device → ℕ → ℕ → List Write) (s : Setting) (ss all : List Setting) → all ≡ s ∷ ss → f s.0.0 s.0.1 s.1 ++ each f ss ≡ each f all
 each_more f s ss all e = ap (each f) (sym e)
 
-abbrev pub access_of : Access → Device × ℕ
-access_of a = (a.device, a.number)
+-- the entry that holds no access yet
+abbrev pub no_access : Access
+no_access = record { device = M; number = 0 }
 
 -- an access that is put among others
 pub accesses_set : (es : List Access) (k : ℕ) (a : Access) → accesses (set es k a) ≡ set (accesses es) k (a.device, a.number)
@@ -71,11 +74,11 @@ module _ (es one two : List Access) (w n : ℕ) (lw : length one ≡ w) (ln : le
   both = ap (λ l. l ++ (two ++ post_of w n (one ++ drop w es))) (take_at one (drop w es) w lw)
 
   pub first_back : take w (accesses (put_mid w n (one ++ drop w es) two)) ≡ accesses one
-  first_back = ap (λ l. take w (accesses l)) both ∙ take-map access_of w (one ++ (two ++ behind)) ∙ ap accesses (take_at one _ w lw)
+  first_back = ap (λ l. take w (accesses l)) both ∙ take-map device_and_number w (one ++ (two ++ behind)) ∙ ap accesses (take_at one _ w lw)
 
   pub second_back : take n (drop w (accesses (put_mid w n (one ++ drop w es) two))) ≡ accesses two
   second_back =
       ap (λ l. take n (drop w (accesses l))) both
-      ∙ ap (take n) (drop-map access_of w (one ++ (two ++ behind)) ∙ ap accesses (drop_at one _ w lw))
-      ∙ take-map access_of n (two ++ behind)
+      ∙ ap (take n) (drop-map device_and_number w (one ++ (two ++ behind)) ∙ ap accesses (drop_at one _ w lw))
+      ∙ take-map device_and_number n (two ++ behind)
       ∙ ap accesses (take_at two behind n ln)

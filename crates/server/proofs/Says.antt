@@ -1,7 +1,8 @@
 -- A request that is written by the forms is answered by its field values alone.
-use Rattle.std.proofs.Common.{◌≡◌, ℕ, ◌+◌, ◌<◌, ◌≤◌, Bool, true, false, cond, not, ◌&&◌, List, ◌++◌, length, take, drop, Ok, Err, Option, Result, sym, refl, ap, ◌∙◌, subst, arith, take_at}
+use Rattle.std.proofs.Common.{◌≡◌, ℕ, ◌+◌, ◌<◌, ◌≤◌, Bool, true, false, cond, not, ◌&&◌, List, [], ◌∷◌, ◌++◌, length, take, drop, Ok, Err, Option, Result, sym, refl, ap, ◌∙◌, subst, arith, take_at}
 use lib.Seq.{sets}
 use Rattle.memory.specs.Meaning.{Meaning}
+use Rattle.memory.specs.Leaving.{Leaving, Leads}
 use Rattle.wire.specs.declared.code.Code.{Code}
 use Rattle.wire.proofs.Places.{drop_sets}
 use Rattle.frame.specs.declared.fault.Cause.TheVariants.{WriteOff}
@@ -12,7 +13,7 @@ use Rattle.frame.specs.Written.{Front, FrontFits, front_bytes}
 use Rattle.frame.proofs.Written.{length_front, length_request, take_request}
 use Rattle.frame.proofs.Written as frames
 use Rattle.request.specs.Requests.{Asked, read_bits, read_words, write_bits, write_words, random_read, register, monitor, random_bits, random_write, command_of}
-use Rattle.request.specs.Verdicts.{command, verdict, forget}
+use Rattle.request.specs.Verdicts.{command, Test, judge, tests, verdict, forget}
 use Rattle.request.specs.Readings.{judged_by, request_in}
 use Rattle.request.specs.Writing.{writing}
 use Rattle.request.proofs.Alike.{alike}
@@ -20,6 +21,8 @@ use Rattle.server.specs.declared.answer.Answer.{Answer}
 use Rattle.server.specs.Registered.{Listed}
 use Rattle.server.specs.Answers.{Answered, accepted, refused, answer_bytes}
 use Rattle.server.specs.Serves.{Done, unchanged, done, late_fault, answered, taken_up, Served, served, Came}
+use Rattle.server.specs.Laws.{ReadsMoveNothing}
+use Rattle.server.proofs.Upheld.{stays}
 use Rattle.server.specs.Says.{command_number, subcommand_number, writes, carried, reaction, frame_of, head_of, Sendable, cause_of, cause_met, AlikeAnswer}
 
 -- what `Reacted` says of a call, of what is fixed of it
@@ -27,6 +30,7 @@ pub record Reacts (code : Code) (f : Front) (a : Asked) (d : Done) (t : Served) 
   pub whole : t.taken ≡ length (frame_of code f a)
   pub reply : t.bytes ≡ answer_bytes code (head_of code f a) d.answer
   pub told : cause_met t.fault_met ≡ cause_of d.answer
+  pub writes : t.writes ≡ d.writes
   pub leaves : t.meaning ≡ d.meaning
   pub lists : t.registered ≡ d.registered
 
@@ -81,9 +85,9 @@ late_cause h (refused c) = refl
 -- an answer comes to what the judgment without its place says
 answered_as : (code : Code) (f : Front) (a : Asked) (m : Meaning) (g : Option Listed) (r : Result Asked Fault) → Reacts code f a (carried m g (forget r)) (answered code (head_of code f a) m g r)
 answered_as code f a m g (Ok b) =
-    record { whole = sym (length_request code f (command_number a) (subcommand_number a) (writing code a)); reply = refl; told = late_cause (head_of code f a) (done b m g).answer; leaves = refl; lists = refl }
+    record { whole = sym (length_request code f (command_number a) (subcommand_number a) (writing code a)); reply = refl; told = late_cause (head_of code f a) (done b m g).answer; writes = refl; leaves = refl; lists = refl }
 answered_as code f a m g (Err e) =
-    record { whole = sym (length_request code f (command_number a) (subcommand_number a) (writing code a)); reply = refl; told = refl; leaves = refl; lists = refl }
+    record { whole = sym (length_request code f (command_number a) (subcommand_number a) (writing code a)); reply = refl; told = refl; writes = refl; leaves = refl; lists = refl }
 
 -- the judgment of the frame, without its place
 judged_as : (code : Code) (f : Front) (a : Asked) (m : Meaning) (flag : Bool) → Sendable a
@@ -132,3 +136,37 @@ alike_answer code xs m m' flag g g' r before after came within a f rest fits ok 
       leaves = came.means ∙ t.leaves;
       lists = came.lists ∙ t.lists;
     }
+
+-- a request that is no write makes no point writes
+reads_only : (a : Asked) (m : Meaning) (g : Option Listed) → writes a ≡ false → (done a m g).writes ≡ []
+reads_only (read_bits d i n) m g e = refl
+reads_only (read_words d i n) m g e = refl
+reads_only (write_bits d i vs) m g e = cc
+reads_only (write_words d i vs) m g e = cc
+reads_only (random_read ws ds) m g e = refl
+reads_only (register ws ds) m g e = refl
+reads_only monitor m g e = refl
+reads_only (random_bits vs) m g e = cc
+reads_only (random_write ws ds) m g e = cc
+
+-- whatever the tests say
+judged_only : (ts : List Test) (a : Asked) (m : Meaning) (g : Option Listed) → (done a m g).writes ≡ [] → (carried m g (judge ts a)).writes ≡ []
+judged_only [] a m g e = e
+judged_only (t ∷ ts) a m g e = go t.1 (judged_only ts a m g e)
+  where
+    go : (b : Bool) → (carried m g (judge ts a)).writes ≡ [] → (carried m g (cond b (judge ts a) (Err t.0))).writes ≡ []
+    go true h = h
+    go false h = refl
+
+reacts_only : (a : Asked) (m : Meaning) (flag : Bool) (g : Option Listed) → writes a ≡ false → (reaction a m flag g).writes ≡ []
+reacts_only a m flag g e = go (writes a && not flag)
+  where
+    go : (b : Bool) → (cond b (unchanged (refused WriteOff) m g) (carried m g (verdict m a))).writes ≡ []
+    go true = refl
+    go false = judged_only (tests m a) a m g (reads_only a m g e)
+
+pub reads_move_nothing : {S : Type 0} (leaves : Leaving S) (code : Code) (xs : List ℕ) (space : ℕ) (m : Meaning) (flag : Bool) (g : Option Listed) (s s' : S)
+    → Leads leaves s (served code xs space m flag g).writes s' → ReadsMoveNothing code xs space s s'
+reads_move_nothing leaves code xs space m flag g s s' l a f rest fits ok room is reads =
+    let t = answers_alike code xs space m flag g a f rest fits ok room is in
+    stays leaves s s' _ l (t.writes ∙ reacts_only a m flag g reads)

@@ -1,13 +1,10 @@
 -- One word or two points more of a reply's data.
-use Rattle.std.proofs.Common.{◌≡◌, ℕ, zero, suc, ◌+◌, ◌-◌, ◌*◌, ◌/◌, ◌<◌, List, [], ◌∷◌, ◌++◌, length, get_or, drop, sym, refl, ap, ◌∙◌, add-mul, add-one, arith}
+use Rattle.std.proofs.Common.{◌≡◌, ℕ, zero, suc, ◌+◌, ◌-◌, ◌*◌, ◌/◌, ◌<◌, ◌≤◌, List, [], ◌∷◌, ◌++◌, length, get_or, take, drop, sym, refl, ap, ◌∙◌, add-mul, add-one, arith}
 use Rattle.std.proofs.Math.Nat.{suc-mul}
 use Rattle.std.proofs.lemmas.List.{drop_more}
 use lib.Seq.{sets}
 use Rattle.device.specs.declared.types.Device.{Device}
-use Rattle.device.specs.declared.types.Device.TheVariants.{M}
-use Rattle.server.specs.declared.registration.Access.{Access}
 use Rattle.server.specs.declared.points.Width.{Width}
-use Rattle.server.specs.Registered.{accesses}
 use Rattle.device.specs.Devices.{kind_of}
 use Rattle.wire.specs.declared.code.Code.{Code}
 use Rattle.wire.specs.declared.code.Code.TheVariants.{Binary, Ascii}
@@ -82,25 +79,28 @@ pub length_bits : (V : Values) (d : Device) (n k : ℕ) → length (bits V d n k
 length_bits V d n zero = refl
 length_bits V d n (suc k) = ap suc (length_bits V d (n + 1) k)
 
--- what is read where there is no access
-abbrev pub no_access : Access
-no_access = record { device = M; number = 0 }
+-- the next access of so many from an index on
+pub kept_more : (all : List (Device × ℕ)) (d : Device × ℕ) (from count i : ℕ) → i < count → from + count ≤ length all
+    → take (count - i) (drop (from + i) all) ≡ get_or all (from + i) d ∷ take (count - (i + 1)) (drop (from + (i + 1)) all)
+kept_more all d from count i h room =
+    let one : count - i ≡ suc (count - (i + 1)) = omega arith in
+    let next : from + i + 1 ≡ from + (i + 1) = omega arith in
+    ap (λ n. take n (drop (from + i) all)) one
+    ∙ ap (take (suc (count - (i + 1)))) (drop_more all (from + i) d (omega arith))
+    ∙ ap (λ n. get_or all (from + i) d ∷ take (count - (i + 1)) (drop n all)) next
 
-module _ (code : Code) (width : Width) (V : Values) (es : List Access) (i : ℕ) (below : i < length es) where
-  abbrev here : Access
-  here = get_or es i no_access
+-- one access more of a request's list
+pub listed_turn : (code : Code) (width : Width) (V : Values) (out : List ℕ) (place v n : ℕ) (a : Device × ℕ) (rest all : List (Device × ℕ)) → all ≡ a ∷ rest → v ≡ value_of width V a.0 a.1 → n ≡ bytes_of width
+    → sets (sets out place (encode code n v)) (place + n * per_byte code) (values_bytes code (bytes_of width) (values_of width V rest)) ≡ sets out place (values_bytes code (bytes_of width) (values_of width V all))
+listed_turn code width V out place v n a rest all is e f =
+    rw (e, f)
+    (sets_sets out place (bytes_of width * per_byte code) (encode code (bytes_of width) (value_of width V a.0 a.1)) _ (length_encode code (bytes_of width) _)
+    ∙ ap (λ l. sets out place (values_bytes code (bytes_of width) (values_of width V l))) (sym is))
 
-  pub accesses_turn : (out : List ℕ) (place v n : ℕ) → v ≡ value_of width V here.device here.number → n ≡ bytes_of width
-      → sets (sets out place (encode code n v)) (place + n * per_byte code) (values_bytes code (bytes_of width) (values_of width V (accesses (drop (i + 1) es))))
-      ≡ sets out place (values_bytes code (bytes_of width) (values_of width V (accesses (drop i es))))
-  accesses_turn out place v n e f =
-      rw (e, f)
-      (sets_sets out place (bytes_of width * per_byte code) (encode code (bytes_of width) (value_of width V here.device here.number)) _ (length_encode code (bytes_of width) _)
-      ∙ ap (λ l. sets out place (values_bytes code (bytes_of width) (values_of width V (accesses l)))) (sym (drop_more es i no_access below)))
+-- and what it adds to their length
+pub long_turn : (a : Device × ℕ) (rest all : List (Device × ℕ)) (k : ℕ) → all ≡ a ∷ rest → length all * k ≡ k + length rest * k
+long_turn a rest all k is = ap (λ l. length l * k) is ∙ suc-mul (length rest) k ∙ omega arith
 
-  pub left_turn : (k : ℕ) → length (drop i es) * k ≡ k + length (drop (i + 1) es) * k
-  left_turn k = ap (λ l. length l * k) (drop_more es i no_access below) ∙ suc-mul (length (drop (i + 1) es)) k ∙ omega arith
-
-pub length_values_of : (width : Width) (V : Values) (as' : List Access) → length (values_of width V (accesses as')) ≡ length as'
-length_values_of width V [] = refl
-length_values_of width V (a ∷ rest) = ap suc (length_values_of width V rest)
+pub length_shown : (width : Width) (V : Values) (as' : List (Device × ℕ)) → length (values_of width V as') ≡ length as'
+length_shown width V [] = refl
+length_shown width V (a ∷ rest) = ap suc (length_shown width V rest)

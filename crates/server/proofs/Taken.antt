@@ -6,13 +6,14 @@ use Rattle.device.specs.declared.types.Kind.{Kind}
 use Rattle.device.specs.declared.types.Kind.TheVariants.{Bit, Word}
 use Rattle.device.specs.Devices.{kind_of}
 use Rattle.memory.specs.Meaning.{Meaning, value_limit, write_answer}
+use Rattle.memory.specs.Leaving.{Write}
 use Rattle.request.specs.Limits.{points, is_bit, within, all_open, all_bits}
 use Rattle.request.specs.Requests.{Asked, Setting, write_bits, write_words, random_bits, random_write}
 use Rattle.request.specs.Verdicts.{verdict}
 use Rattle.request.specs.Writing.{Each}
 use Rattle.request.proofs.Passed.{SettingOk, BitSettingOk}
 use Rattle.request.proofs.Accepted.{takes, tests_passed, write_each, bits_each}
-use Rattle.server.specs.Writes.{Write, in_row, spread, word_write, as_point, as_word, as_double, as_words, each}
+use Rattle.server.specs.Writes.{in_row, spread, word_write, as_point, as_word, as_double, as_words, each}
 use Rattle.server.proofs.Trying.{AllTaken}
 
 -- a span that is within and open

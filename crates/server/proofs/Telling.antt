@@ -8,10 +8,10 @@ use Rattle.frame.specs.declared.header.Header.{Header}
 use Rattle.frame.specs.Replies.{head_size, head_bytes, reply_bytes}
 use Rattle.frame.proofs.Heads.{length_head, head_then_data}
 use Rattle.memory.specs.Meaning.{Meaning}
+use Rattle.memory.specs.Leaving.{Write, Leaving, Leads, Tries}
 use Rattle.server.specs.declared.answer.Answer.{Answer}
 use Rattle.server.specs.Answers.{accepted, no_data, answer_bytes}
 use Rattle.server.specs.Registered.{Listed}
-use Rattle.server.specs.Writes.{Write, tried}
 use Rattle.server.proofs.Trying.{AllTaken, all_made}
 use Rattle.server.specs.Serves.{Tells, Came, finished, wrote}
 
@@ -29,6 +29,7 @@ told code h end n at met bytes r₀ r₁ r₂ answer t l f e a p q =
     }
 
 -- writes that the memory takes, and a reply without data
-pub came_wrote : (code : Code) (h : Header) (m m' : Meaning) (g : Option Listed) (ws : List Write) (a : Answer) (r r' : List ℕ)
-    → m' ≡ tried m ws → AllTaken m ws → Tells h.size (answer_bytes code h (accepted no_data)) None a r r' → Came (finished code h (wrote ws m g)) a r r' m' g
-came_wrote code h m m' g ws a r r' e t tells = record { tells = tells; means = e ∙ all_made m ws t; lists = refl }
+pub came_wrote : {S : Type 0} (means : S → Meaning) (leaves : Leaving S) (code : Code) (h : Header) (s t : S) (g : Option Listed) (ws : List Write) (a : Answer) (r r' : List ℕ)
+    → Leads (Tries means leaves) s ws t → AllTaken (means s) ws → Tells h.size (answer_bytes code h (accepted no_data)) None a r r'
+    → Came (finished code h (wrote ws (means s) g)) a r r' (means t) g
+came_wrote means leaves code h s t g ws a r r' l taken tells = record { tells = tells; means = (all_made means leaves s t ws taken l).1; lists = refl }

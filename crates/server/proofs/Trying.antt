@@ -1,33 +1,45 @@
 -- Writes put to a memory one after the other.
-use Rattle.std.proofs.Common.{◌≡◌, ℕ, ◌+◌, ◌-◌, ◌/◌, ◌%◌, ◌<◌, List, [], ◌∷◌, ◌++◌, Ok, Result, refl, ap, ◌∙◌, add-one, arith}
+use Rattle.std.proofs.Common.{◌≡◌, ℕ, ◌+◌, ◌-◌, ◌/◌, ◌%◌, ◌<◌, List, [], ◌∷◌, ◌++◌, Ok, Result, sym, refl, ap, ◌∙◌, subst, add-one, arith}
 use Rattle.device.specs.declared.types.Device.{Device}
 use Rattle.memory.specs.declared.refusal.Refusal.{Refusal}
 use Rattle.memory.specs.Meaning.{Meaning, write_answer, written}
-use Rattle.server.specs.Writes.{Write, tried, stored, as_point, spread}
+use Rattle.memory.specs.Leaving.{Write, Leaving, LeftBy, Leads, Tries}
+use Rattle.server.specs.Writes.{stored, as_point, spread}
 
 -- no write would be refused
 abbrev pub AllTaken : Meaning → List Write → Type 0
 AllTaken m [] = Unit {0}
 AllTaken m (w ∷ ws) = (write_answer m w.0 w.1 w.2 ≡ Ok tt) × AllTaken m ws
 
-pub tried_none : (m : Meaning) → tried m [] ≡ m
-unfolding tried
-tried_none m = refl
+-- one part behind the other
+pub leads_on : {S : Type 0} (R : Leaving S) (s t u : S) (us vs : List Write) → Leads R s us t → Leads R t vs u → Leads R s (us ++ vs) u
+leads_on R s t u [] vs a b = subst (λ x. Leads R x vs u) a b
+leads_on R s t u (w ∷ us) vs a b = (a.0, a.1, leads_on R a.0 t u us vs a.2 b)
+
+-- what is left of writes: wherever these lead from here, all lead from the beginning
+pub record IsRest {S : Type 0} (R : Leaving S) (s : S) (all : List Write) (u : S) (rest : List Write) : Type 0 where
+  pub on : (t : S) → Leads R u rest t → Leads R s all t
+
+module _ {S : Type 0} (R : Leaving S) (s : S) (all : List Write) where
+  -- a turn: the writes of one entry, and then the rest
+  pub rest_turn : (u u' : S) (us vs ws : List Write) → IsRest R s all u ws → Leads R u us u' → us ++ vs ≡ ws → IsRest R s all u' vs
+  rest_turn u u' us vs ws i l e = record { on = λ t h. i.on t (subst (λ x. Leads R u x t) e (leads_on R u u' t us vs l h)) }
+
+  -- the end, where none is left
+  pub rest_none : (u : S) (ws : List Write) → IsRest R s all u ws → ws ≡ [] → Leads R s all u
+  rest_none u ws i e = i.on u (subst (λ x. Leads R u x u) (sym e) refl)
+
+-- the beginning, where all are left
+pub rest_all : {S : Type 0} (R : Leaving S) (s : S) (all : List Write) (ws : List Write) → ws ≡ all → IsRest R s all s ws
+rest_all R s all ws e = record { on = λ t h. subst (λ x. Leads R s x t) e h }
 
 -- one write that answered so
-pub tried_one : (m m' : Meaning) (d : Device) (n v : ℕ) (r : Result (Unit {0}) Refusal) → r ≡ write_answer m d n v → m' ≡ written r m d n v → m' ≡ tried m (as_point d n v)
-unfolding tried
-tried_one m m' d n v r e f = f ∙ ap (λ q. written q m d n v) e
-
--- one part behind the other
-pub tried_on : (m : Meaning) (us vs : List Write) → tried (tried m us) vs ≡ tried m (us ++ vs)
-unfolding tried
-tried_on m [] vs = refl
-tried_on m (u ∷ us) vs = tried_on (written (write_answer m u.0 u.1 u.2) m u.0 u.1 u.2) us vs
-
--- a turn: the writes of one entry, and then the rest
-pub tried_turn : (m m' : Meaning) (us vs ws : List Write) → m' ≡ tried m us → us ++ vs ≡ ws → tried m' vs ≡ tried m ws
-tried_turn m m' us vs ws e f = ap (λ n. tried n vs) e ∙ tried_on m us vs ∙ ap (tried m) f
+pub tries_one : {S : Type 0} (means : S → Meaning) (leaves : Leaving S) (s t : S) (d : Device) (n v : ℕ) (r : Result (Unit {0}) Refusal) → r ≡ write_answer (means s) d n v
+    → means t ≡ written r (means s) d n v → LeftBy leaves r s d n v t → Leads (Tries means leaves) s (as_point d n v) t
+tries_one means leaves s t d n v r e f l =
+    let P : Result (Unit {0}) Refusal → Type 0 = λ q. LeftBy leaves q s d n v t × (means t ≡ written q (means s) d n v) in
+    let one : P (write_answer (means s) d n v) = subst P e (l, f) in
+    (t, one, refl)
 
 pub spread_turn : (d : Device) (n i v : ℕ) → i < 16 → as_point d (n + i) (v % 2) ++ spread d (n + (i + 1)) (16 - (i + 1)) (v / 2) ≡ spread d (n + i) (16 - i) v
 spread_turn d n i v h =
@@ -35,19 +47,18 @@ spread_turn d n i v h =
     let next : n + (i + 1) ≡ n + i + 1 = omega arith in
     rw (one, add-one (16 - (i + 1)), next)
 
--- where no write is refused, all are made
-pub all_made : (m : Meaning) (ws : List Write) → AllTaken m ws → tried m ws ≡ stored m ws
-unfolding tried
-all_made m [] t = refl
-all_made m (w ∷ ws) t =
-    ap (λ r. tried (written r m w.0 w.1 w.2) ws) t.0
-    ∙ all_made (written (Ok tt) m w.0 w.1 w.2) ws (still ws t.1)
-  where
-    -- what a write leaves open and inside stays so
-    still : (us : List Write) → AllTaken m us → AllTaken (written (Ok tt) m w.0 w.1 w.2) us
-    still [] s = tt
-    still (u ∷ us) s = (s.0, still us s.1)
+-- what a write leaves open and inside stays so
+still : (m : Meaning) (d : Device) (n v : ℕ) (us : List Write) → AllTaken m us → AllTaken (written (Ok tt) m d n v) us
+still m d n v [] s = tt
+still m d n v (u ∷ us) s = (s.0, still m d n v us s.1)
 
--- the same with a part that is looked at under another name
-pub tried_more : (m m' : Meaning) (us vs : List Write) {all : Meaning} → m' ≡ tried m us → tried m (us ++ vs) ≡ all → tried m' vs ≡ all
-tried_more m m' us vs e f = ap (λ n. tried n vs) e ∙ tried_on m us vs ∙ f
+-- where no write is refused, all are made
+pub all_made : {S : Type 0} (means : S → Meaning) (leaves : Leaving S) (s t : S) (ws : List Write) → AllTaken (means s) ws → Leads (Tries means leaves) s ws t
+    → Leads leaves s ws t × (means t ≡ stored (means s) ws)
+all_made means leaves s t [] a h = (h, ap means h)
+all_made means leaves s t (w ∷ ws) a h =
+    let u = h.0 in
+    let left : leaves s w.0 w.1 w.2 u = subst (λ r. LeftBy leaves r s w.0 w.1 w.2 u) a.0 h.1.0 in
+    let moved : means u ≡ written (Ok tt) (means s) w.0 w.1 w.2 = h.1.1 ∙ ap (λ r. written r (means s) w.0 w.1 w.2) a.0 in
+    let rest = all_made means leaves u t ws (subst (λ m. AllTaken m ws) (sym moved) (still (means s) w.0 w.1 w.2 ws a.1)) h.2 in
+    ((u, left, rest.0), rest.1 ∙ ap (λ m. stored m ws) moved)

@@ -1,9 +1,10 @@
 -- A history of calls to a server: what each call shows and leaves, and what a list of calls comes to.
-use Rattle.std.specs.Prelude.{◌≡◌, ℕ, Bool, true, List, [], ◌∷◌, ◌++◌, length, Some, None, Option, Result}
+use Rattle.std.specs.Prelude.{◌≡◌, ℕ, Bool, true, List, [], ◌∷◌, ◌++◌, length, Some, None, Ok, Err, Option, Result}
 use Rattle.std.proofs.lemmas.List.Edits.{sets}
 use Rattle.device.specs.declared.types.Device.{Device}
 use Rattle.memory.specs.declared.refusal.Refusal.{Refusal}
 use Rattle.memory.specs.Meaning.{Meaning, write_answer, written as after_write}
+use Rattle.memory.specs.Leaving.{Write}
 use Rattle.wire.specs.declared.code.Code.{Code}
 use Rattle.frame.specs.declared.fault.Fault.{Fault}
 use Rattle.server.specs.Registered.{Listed}
@@ -60,6 +61,11 @@ step s (setting d n v) = state (after_write (write_answer s.meaning d n v) s.mea
 step s opening = opened s.before s
 step s ending = ended s.before s
 
+-- a write that was carried out, and none that was refused
+abbrev pub only_ok : Result (Unit {0}) Refusal → Write → List Write
+only_ok (Ok _) w = w ∷ []
+only_ok (Err _) w = []
+
 -- the flag that an opening or an ending shows
 abbrev pub on_opening : Option Bool → Option Bool
 on_opening None = Some true
@@ -76,6 +82,13 @@ outcome s (setting d n v) = written (write_answer s.meaning d n v)
 outcome s opening = window (on_opening s.before)
 outcome s ending = window s.before
 
+-- the point writes that a call makes, in their order: none where it is refused, and none of an opening or an ending
+abbrev pub made_by : State → Move → List Write
+made_by s (frame code xs space) = (at_frame s code xs space).writes
+made_by s (setting d n v) = only_ok (write_answer s.meaning d n v) (d, n, v)
+made_by s opening = []
+made_by s ending = []
+
 -- what a list of calls shows, call by call
 abbrev pub shown : State → List Move → List Shown
 shown s [] = []
@@ -85,6 +98,11 @@ shown s (m ∷ ms) = outcome s m ∷ shown (step s m) ms
 abbrev pub after : State → List Move → State
 after s [] = s
 after s (m ∷ ms) = after (step s m) ms
+
+-- the point writes that a list of calls makes
+abbrev pub made_through : State → List Move → List Write
+made_through s [] = []
+made_through s (m ∷ ms) = made_by s m ++ made_through (step s m) ms
 
 -- the end of the list ends a window too
 abbrev pub closed : State → State

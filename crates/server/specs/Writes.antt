@@ -4,16 +4,13 @@ use Rattle.device.specs.declared.types.Device.{Device}
 use Rattle.device.specs.declared.types.Kind.{Kind}
 use Rattle.device.specs.declared.types.Kind.TheVariants.{Bit, Word as Whole}
 use Rattle.device.specs.Devices.{kind_of}
-use Rattle.memory.specs.Meaning.{Meaning, put, write_answer, written}
+use Rattle.memory.specs.Meaning.{Meaning, put}
+use Rattle.memory.specs.Leaving.{Write}
 use Rattle.request.specs.Limits.{points}
 use Rattle.request.specs.Requests.{Setting}
 use Rattle.server.specs.declared.points.Width.{Width}
 use Rattle.server.specs.declared.points.Width.TheVariants.{Point, Word, Double}
 use Rattle.server.specs.Points.{Values}
-
--- a device, a number and the value that the point is given
-abbrev pub Write : Type 0
-Write = Device × ℕ × ℕ
 
 -- the values once all writes are made, one after the other: a later one wins
 abbrev pub puts : Values → List Write → Values
@@ -23,11 +20,6 @@ puts V (w ∷ ws) = puts (put V w.0 w.1 w.2) ws
 -- the meaning then: nothing else moves
 abbrev pub stored : Meaning → List Write → Meaning
 stored m ws = record { extent = m.extent; value = puts m.value ws; opened = m.opened }
-
--- the meaning once all writes are put to a memory that may refuse some
-unfoldable pub tried : Meaning → List Write → Meaning
-tried m [] = m
-tried m (w ∷ ws) = tried (written (write_answer m w.0 w.1 w.2) m w.0 w.1 w.2) ws
 
 -- a value for each point, one point behind the other
 abbrev pub in_row : Device → ℕ → List ℕ → List Write

@@ -3,6 +3,7 @@
 
 mod answer;
 mod points;
+mod registering;
 mod registration;
 mod reply;
 mod serve;
@@ -14,6 +15,7 @@ mod storing;
 mod window;
 
 pub use answer::Answer;
+pub use registering::Registering;
 pub use registration::{Access, Registration};
 pub use serve::take_frame;
 pub use server::Server;

@@ -9,13 +9,10 @@ use device::{Device, Kind};
 use memory::ReadableMemory;
 
 // The value of a point; 0 outside.
-pub(crate) fn value_at<M: ReadableMemory>(memory: &M, device: Device, number: usize) -> u16
-    ensures { result ≡ (M.ReadableMemory.means memory.now).value device number }
+pub(crate) fn value_at<M: ReadableMemory>(memory: &M, device: Device, number: u32) -> u16
+    ensures { result ≡ (M.means memory.now).value device number }
 {
-    u32::try_from(number)
-        .ok()
-        .and_then(|number| memory.read(device, number))
-        .unwrap_or(0)
+    memory.read(device, number).unwrap_or(0)
 }
 
 // The number with one more bit below it.
@@ -27,22 +24,22 @@ fn with_bit(word: u16, bit: u16) -> u16
 }
 
 // Sixteen bit points as one word, the lowest number in bit 0.
-fn sixteen<M: ReadableMemory>(memory: &M, device: Device, number: usize) -> u16
-    requires { (kind_of device ≡ Bit) × (number < 2 ^ 33) }
-    ensures { result ≡ packed (M.ReadableMemory.means memory.now).value device number 16 }
+fn sixteen<M: ReadableMemory>(memory: &M, device: Device, number: u32) -> u16
+    requires { (kind_of device ≡ Bit) × (number < 2 ^ 31) }
+    ensures { result ≡ packed (M.means memory.now).value device number 16 }
 {
     let mut word = 0;
     // By index, since points are asked for by their numbers; a fold would not know that the word still has room for a bit.
-    for i in (0..16usize).rev() {
+    for i in (0..16u32).rev() {
         word = with_bit(word, value_at(memory, device, number + i));
     }
     word
 }
 
 // The word that begins at a point.
-pub(crate) fn word_at<M: ReadableMemory>(memory: &M, device: Device, number: usize) -> u16
-    requires { number < 2 ^ 33 }
-    ensures { result ≡ word (M.ReadableMemory.means memory.now).value device number }
+pub(crate) fn word_at<M: ReadableMemory>(memory: &M, device: Device, number: u32) -> u16
+    requires { number < 2 ^ 31 }
+    ensures { result ≡ word (M.means memory.now).value device number }
 {
     match device.kind() {
         Kind::Bit => sixteen(memory, device, number),
@@ -51,7 +48,7 @@ pub(crate) fn word_at<M: ReadableMemory>(memory: &M, device: Device, number: usi
 }
 
 // How many points a word of the device has: what the crate below says of any count of words, in a function that is not public.
-pub(crate) fn word_points(device: Device) -> usize
+pub(crate) fn word_points(device: Device) -> u32
     ensures value { result ≡ points (kind_of device) 1 }
     ensures few { result ≤ 16 }
 {
@@ -62,9 +59,9 @@ pub(crate) fn word_points(device: Device) -> usize
 }
 
 // The double word that begins at a point: the low word first.
-fn double_at<M: ReadableMemory>(memory: &M, device: Device, number: usize) -> u32
-    requires { number < 2 ^ 32 }
-    ensures { result ≡ double (M.ReadableMemory.means memory.now).value device number }
+fn double_at<M: ReadableMemory>(memory: &M, device: Device, number: u32) -> u32
+    requires { number < 2 ^ 30 }
+    ensures { result ≡ double (M.means memory.now).value device number }
 {
     let low = u32::from(word_at(memory, device, number));
     let high = u32::from(word_at(memory, device, number + word_points(device)));
@@ -89,6 +86,9 @@ impl Width {
     }
 }
 
+// A number that lies past every extent.
+const FAR: u32 = 0x4000_0000;
+
 // The value of an access.
 pub(crate) fn access_value<M: ReadableMemory>(
     memory: &M,
@@ -96,11 +96,15 @@ pub(crate) fn access_value<M: ReadableMemory>(
     number: u32,
     width: Width,
 ) -> u32
-    ensures { result ≡ value_of width (M.ReadableMemory.means memory.now).value device number }
+    ensures { result ≡ value_of width (M.means memory.now).value device number }
 {
+    // tested once, so that no sum of the loops below has to be
+    if number >= FAR {
+        return 0;
+    }
     match width {
-        Width::Point => u32::from(value_at(memory, device, number as usize)),
-        Width::Word => u32::from(word_at(memory, device, number as usize)),
-        Width::Double => double_at(memory, device, number as usize),
+        Width::Point => u32::from(value_at(memory, device, number)),
+        Width::Word => u32::from(word_at(memory, device, number)),
+        Width::Double => double_at(memory, device, number),
     }
 }

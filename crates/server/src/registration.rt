@@ -24,5 +24,3 @@ pub struct Registration {
 }
 
 mod lists;
-
-pub(crate) use lists::listed;

@@ -1,16 +1,19 @@
 // The replies that a call writes.
-ghost use Rattle.std.specs.Prelude.{◌≡◌, ◌+◌, ◌*◌, ◌<◌, ◌≤◌, length, Some, None};
+ghost use Rattle.std.specs.Prelude.{◌≡◌, ◌+◌, ◌*◌, ◌^◌, ◌<◌, ◌≤◌, length, drop, Some, None};
 ghost use Rattle.device.specs.Devices.{kind_of};
 ghost use Rattle.device.specs.declared.types.Kind.TheVariants.{Bit};
+ghost use Rattle.wire.specs.Numbers.{per_byte};
+ghost use Rattle.request.specs.Fields.{list_in};
+ghost use Rattle.request.specs.Entries.{access_in};
 ghost use Rattle.server.specs.Points.{words, bits};
-ghost use Rattle.server.specs.Registered.{registered, words_in, doubles_in};
+ghost use Rattle.server.specs.Registered.{words_of, doubles_of};
 ghost use Rattle.server.specs.Answers.{accepted, refused, no_data, in_bits, in_words, answer_bytes};
 ghost use Rattle.server.specs.Serves.{Tells, Replies, shown_list, monitored};
 
 use crate::answer::Answer;
 use crate::points::Width;
-use crate::registration::Registration;
-use crate::showing::{write_accesses, write_bits, write_words};
+use crate::registering::Registering;
+use crate::showing::{write_bits, write_kept, write_listed, write_words};
 use device::Device;
 use frame::{Cause, Fault, Header, write_error_data, write_head};
 use memory::ReadableMemory;
@@ -60,8 +63,8 @@ impl Reply<'_> {
         number: u32,
         points: usize,
     ) -> Answer
-        requires { points ≤ 960 }
-        ensures tells { Replies C.WireCode.which self.old.header (accepted (in_words (words (M.ReadableMemory.means memory.now).value device number points))) result self.old.space.now self.new.space.now }
+        requires { (points ≤ 960) × (number < 2 ^ 24) }
+        ensures tells { Replies C.WireCode.which self.old.header (accepted (in_words (words (M.means memory.now).value device number points))) result self.old.space.now self.new.space.now }
         ensures name { self.new.space.ghost_name ≡ self.old.space.ghost_name }
         ensures fits { result.length ≤ length self.old.space.now }
     {
@@ -79,8 +82,8 @@ impl Reply<'_> {
         number: u32,
         points: usize,
     ) -> Answer
-        requires { (points ≤ 3584) × (kind_of device ≡ Bit) }
-        ensures tells { Replies C.WireCode.which self.old.header (accepted (in_bits (bits (M.ReadableMemory.means memory.now).value device number points))) result self.old.space.now self.new.space.now }
+        requires { (points ≤ 3584) × (number < 2 ^ 24) × (kind_of device ≡ Bit) }
+        ensures tells { Replies C.WireCode.which self.old.header (accepted (in_bits (bits (M.means memory.now).value device number points))) result self.old.space.now self.new.space.now }
         ensures name { self.new.space.ghost_name ≡ self.old.space.ghost_name }
         ensures fits { result.length ≤ length self.old.space.now }
     {
@@ -100,37 +103,87 @@ impl Reply<'_> {
         self.answer(at, None)
     }
 
-    // The reply that shows a list of accesses.
-    pub(crate) fn show_listed<C: WireCode, M: ReadableMemory>(
+    // The reply that shows the accesses of a request's list: so many of a word, and then of a double word.
+    pub(crate) fn show_random<C: WireCode, M: ReadableMemory>(
         &mut self,
         memory: &M,
-        list: &Registration,
+        list: &[u8],
+        words: usize,
+        doubles: usize,
     ) -> Answer
-        ensures tells { Replies C.WireCode.which self.old.header (shown_list (M.ReadableMemory.means memory.now) (words_in list.now, doubles_in list.now)) result self.old.space.now self.new.space.now }
+        requires few { words + doubles ≤ 192 }
+        requires whole { (length (list_in (access_in C.WireCode.which) words list.now) ≡ words) × (length (list_in (access_in C.WireCode.which) doubles (drop (words * (4 * per_byte C.WireCode.which)) list.now)) ≡ doubles) }
+        ensures tells { Replies C.WireCode.which self.old.header (shown_list (M.means memory.now) (list_in (access_in C.WireCode.which) words list.now, list_in (access_in C.WireCode.which) doubles (drop (words * (4 * per_byte C.WireCode.which)) list.now))) result self.old.space.now self.new.space.now }
         ensures name { self.new.space.ghost_name ≡ self.old.space.ghost_name }
         ensures fits { result.length ≤ length self.old.space.now }
     {
-        let words = list.words();
-        let doubles = list.doubles();
-        let size = words.len() * C::field_size(2) + doubles.len() * C::field_size(4);
+        let size = words * C::field_size(2) + doubles * C::field_size(4);
+        let behind = words * C::field_size(4);
         let at = write_head::<C>(self.space, self.header, size, 0);
-        let at_doubles = write_accesses::<C, M>(self.space, at, memory, words, Width::Word);
-        let length = write_accesses::<C, M>(self.space, at_doubles, memory, doubles, Width::Double);
+        let end = write_listed::<C, M>(self.space, at, memory, list, 0, words, Width::Word);
+        let length = write_listed::<C, M>(
+            self.space,
+            end,
+            memory,
+            list,
+            behind,
+            doubles,
+            Width::Double,
+        );
+        self.answer(length, None)
+    }
+
+    // The reply that shows the accesses of a registration: so many of a word, and then of a double word.
+    fn show_kept<C: WireCode, M: ReadableMemory, R: Registering>(
+        &mut self,
+        memory: &M,
+        registration: &R,
+        words: usize,
+        doubles: usize,
+    ) -> Answer
+        requires few { words + doubles ≤ 192 }
+        requires many { (length (words_of (R.lists registration.now)) ≡ words) × (length (doubles_of (R.lists registration.now)) ≡ doubles) }
+        ensures tells { Replies C.WireCode.which self.old.header (shown_list (M.means memory.now) (words_of (R.lists registration.now), doubles_of (R.lists registration.now))) result self.old.space.now self.new.space.now }
+        ensures name { self.new.space.ghost_name ≡ self.old.space.ghost_name }
+        ensures fits { result.length ≤ length self.old.space.now }
+    {
+        let size = words * C::field_size(2) + doubles * C::field_size(4);
+        let at = write_head::<C>(self.space, self.header, size, 0);
+        let end = write_kept::<C, M, R>(
+            self.space,
+            at,
+            memory,
+            registration,
+            0,
+            words,
+            Width::Word,
+        );
+        let length = write_kept::<C, M, R>(
+            self.space,
+            end,
+            memory,
+            registration,
+            words,
+            doubles,
+            Width::Double,
+        );
         self.answer(length, None)
     }
 
     // The reply to a monitor request: the registered list, or that there is none.
-    pub(crate) fn show_registered<C: WireCode, M: ReadableMemory>(
+    pub(crate) fn show_registered<C: WireCode, M: ReadableMemory, R: Registering>(
         &mut self,
         memory: &M,
-        registration: &Registration,
+        registration: &R,
     ) -> Answer
-        ensures tells { Replies C.WireCode.which self.old.header (monitored (M.ReadableMemory.means memory.now) (registered registration.now)) result self.old.space.now self.new.space.now }
+        ensures tells { Replies C.WireCode.which self.old.header (monitored (M.means memory.now) (R.lists registration.now)) result self.old.space.now self.new.space.now }
         ensures name { self.new.space.ghost_name ≡ self.old.space.ghost_name }
         ensures fits { result.length ≤ length self.old.space.now }
     {
-        match registration.count() {
-            Some(_) => self.show_listed::<C, M>(memory, registration),
+        match registration.counts() {
+            Some((words, doubles)) => {
+                self.show_kept::<C, M, R>(memory, registration, words, doubles)
+            }
             None => {
                 let fault = Cause::NotRegistered.at(self.header.command_at);
                 self.refuse::<C>(fault)

@@ -1,16 +1,16 @@
 // Takes one frame and carries its request out.
-ghost use Rattle.std.specs.Prelude.{◌≡◌, ◌*◌, ◌<◌, ◌≤◌, Bool, length, IfOk, Some, Ok, Option};
+ghost use Rattle.std.specs.Prelude.{◌≡◌, ◌<◌, ◌≤◌, Bool, true, length, is_some, IfOk, Some, Ok, Option};
+ghost use Rattle.memory.specs.Leaving.{Leads};
 ghost use Rattle.server.specs.Points.{words};
-ghost use Rattle.server.specs.Registered.{registered};
 ghost use Rattle.request.specs.Laws.{Bounded, Passed};
 ghost use Rattle.request.specs.Readings.{held, said, Whole, request_in};
 ghost use Rattle.server.specs.Histories.{frame as taking, taken, state, CarriesOn};
-ghost use Rattle.server.specs.Laws.{FaultsMoveNothing, SpaceKept};
+ghost use Rattle.server.specs.Laws.{FaultsMoveNothing, ReadsMoveNothing, SpaceKept};
 ghost use Rattle.server.specs.Says.{AlikeAnswer};
 ghost use Rattle.server.specs.Serves.{Came, answered, served};
 
 use crate::answer::Answer;
-use crate::registration::{Registration, listed};
+use crate::registering::Registering;
 use crate::reply::Reply;
 use crate::settings::Settings;
 use crate::storing::{put_bits, put_random, put_random_bits, put_words};
@@ -21,17 +21,20 @@ use wire::{Ascii, Binary, Code, WireCode};
 
 // Carries out a request that passed its tests.
 // Memory, settings and registration are apart here and below, since a window lends the settings while the others are written.
-fn carry_out<C: WireCode, M: WritableMemory>(
+fn carry_out<C: WireCode, M: WritableMemory, R: Registering>(
     reply: &mut Reply<'_>,
     request: Request<'_>,
     memory: &mut M,
-    registration: &mut Registration,
+    registration: &mut R,
 ) -> Answer
     requires whole { IfOk (held (Ok request)) (Whole C.WireCode.which) }
-    requires bounded { IfOk (held (Ok request)) (Bounded (M.ReadableMemory.means memory.old)) }
-    requires passed { Passed (M.ReadableMemory.means memory.old) (said C.WireCode.which (Ok request)) }
-    ensures came { Came (answered C.WireCode.which reply.old.header (M.ReadableMemory.means memory.old) (registered registration.old) (said C.WireCode.which (Ok request.entry))) result reply.old.space.now reply.new.space.now (M.ReadableMemory.means memory.new) (registered registration.new) }
-    ensures keeps { M.ReadableMemory.keeps memory.old memory.new }
+    requires bounded { IfOk (held (Ok request)) (Bounded (M.means memory.old)) }
+    requires passed { Passed (M.means memory.old) (said C.WireCode.which (Ok request)) }
+    ensures came { Came (answered C.WireCode.which reply.old.header (M.means memory.old) (R.lists registration.old) (said C.WireCode.which (Ok request.entry))) result reply.old.space.now reply.new.space.now (M.means memory.new) (R.lists registration.new) }
+    ensures left { let what = answered C.WireCode.which reply.old.header (M.means memory.old) (R.lists registration.old) (said C.WireCode.which (Ok request.entry)) in
+        Leads M.leaves memory.old what.writes memory.new }
+    ensures good { R.good registration.old → R.good registration.new }
+    ensures declined { is_some result.fault ≡ true → registration.new ≡ registration.old }
     ensures name { reply.new.space.ghost_name ≡ reply.old.space.ghost_name }
     ensures fits { result.length ≤ length reply.old.space.now }
 {
@@ -71,17 +74,17 @@ fn carry_out<C: WireCode, M: WritableMemory>(
             doubles,
             list,
             ..
-        } => reply.show_listed::<C, M>(memory, &listed::<C>(list, words, doubles)),
+        } => reply.show_random::<C, M>(memory, list, words, doubles),
         Request::Register {
             words,
             doubles,
             list,
             ..
         } => {
-            *registration = listed::<C>(list, words, doubles);
+            registration.replace::<C>(list, words, doubles);
             reply.accept::<C>()
         }
-        Request::Monitor => reply.show_registered::<C, M>(memory, registration),
+        Request::Monitor => reply.show_registered::<C, M, R>(memory, registration),
         Request::WriteRandomBits { count, list, .. } => {
             put_random_bits::<C, M>(memory, list, count);
             reply.accept::<C>()
@@ -99,58 +102,67 @@ fn carry_out<C: WireCode, M: WritableMemory>(
 }
 
 // Answers a request that was read, or the fault that was found in it, which changes nothing.
-fn answer_request<C: WireCode, M: WritableMemory>(
+fn answer_request<C: WireCode, M: WritableMemory, R: Registering>(
     reply: &mut Reply<'_>,
     request: Result<Request<'_>, Fault>,
     memory: &mut M,
-    registration: &mut Registration,
+    registration: &mut R,
 ) -> Answer
     requires whole { IfOk (held request) (Whole C.WireCode.which) }
-    requires bounded { IfOk (held request) (Bounded (M.ReadableMemory.means memory.old)) }
-    requires passed { Passed (M.ReadableMemory.means memory.old) (said C.WireCode.which request) }
-    ensures came { Came (answered C.WireCode.which reply.old.header (M.ReadableMemory.means memory.old) (registered registration.old) (said C.WireCode.which request.entry)) result reply.old.space.now reply.new.space.now (M.ReadableMemory.means memory.new) (registered registration.new) }
-    ensures keeps { M.ReadableMemory.keeps memory.old memory.new }
+    requires bounded { IfOk (held request) (Bounded (M.means memory.old)) }
+    requires passed { Passed (M.means memory.old) (said C.WireCode.which request) }
+    ensures came { Came (answered C.WireCode.which reply.old.header (M.means memory.old) (R.lists registration.old) (said C.WireCode.which request.entry)) result reply.old.space.now reply.new.space.now (M.means memory.new) (R.lists registration.new) }
+    ensures left { let what = answered C.WireCode.which reply.old.header (M.means memory.old) (R.lists registration.old) (said C.WireCode.which request.entry) in
+        Leads M.leaves memory.old what.writes memory.new }
+    ensures good { R.good registration.old → R.good registration.new }
+    ensures declined { is_some result.fault ≡ true → registration.new ≡ registration.old }
     ensures name { reply.new.space.ghost_name ≡ reply.old.space.ghost_name }
     ensures fits { result.length ≤ length reply.old.space.now }
 {
     match request {
-        Ok(request) => carry_out::<C, M>(reply, request, memory, registration),
+        Ok(request) => carry_out::<C, M, R>(reply, request, memory, registration),
         Err(fault) => reply.refuse::<C>(fault),
     }
 }
 
 // Answers a frame that passed its tests: `frame` is the frame alone.
-fn answer_frame<C: WireCode, M: WritableMemory>(
+fn answer_frame<C: WireCode, M: WritableMemory, R: Registering>(
     frame: &[u8],
     reply: &mut Reply<'_>,
     memory: &mut M,
     settings: &Settings,
-    registration: &mut Registration,
+    registration: &mut R,
 ) -> Answer
     requires { reply.old.header.data_at ≤ length frame.now }
-    ensures came { Came (answered C.WireCode.which reply.old.header (M.ReadableMemory.means memory.old) (registered registration.old) (request_in C.WireCode.which (M.ReadableMemory.means memory.old) settings.now.write_flag reply.old.header frame.now)) result reply.old.space.now reply.new.space.now (M.ReadableMemory.means memory.new) (registered registration.new) }
-    ensures keeps { M.ReadableMemory.keeps memory.old memory.new }
+    ensures came { Came (answered C.WireCode.which reply.old.header (M.means memory.old) (R.lists registration.old) (request_in C.WireCode.which (M.means memory.old) settings.now.write_flag reply.old.header frame.now)) result reply.old.space.now reply.new.space.now (M.means memory.new) (R.lists registration.new) }
+    ensures left { let what = answered C.WireCode.which reply.old.header (M.means memory.old) (R.lists registration.old) (request_in C.WireCode.which (M.means memory.old) settings.now.write_flag reply.old.header frame.now) in
+        Leads M.leaves memory.old what.writes memory.new }
+    ensures good { R.good registration.old → R.good registration.new }
+    ensures declined { is_some result.fault ≡ true → registration.new ≡ registration.old }
     ensures name { reply.new.space.ghost_name ≡ reply.old.space.ghost_name }
     ensures fits { result.length ≤ length reply.old.space.now }
 {
     let request = read_request::<C, M>(memory, frame, reply.header, settings.write_flag);
-    answer_request::<C, M>(reply, request, memory, registration)
+    answer_request::<C, M, R>(reply, request, memory, registration)
 }
 
 // Takes the frame at the front of `frame`, in the code that the trait says.
-fn serve<C: WireCode, M: WritableMemory>(
+fn serve<C: WireCode, M: WritableMemory, R: Registering>(
     frame: &[u8],
     reply: &mut [u8],
     memory: &mut M,
     settings: &Settings,
-    registration: &mut Registration,
+    registration: &mut R,
 ) -> Answer
-    ensures came { Came (served C.WireCode.which frame.now (length reply.old) (M.ReadableMemory.means memory.old) settings.now.write_flag (registered registration.old)) result reply.old reply.new (M.ReadableMemory.means memory.new) (registered registration.new) }
-    ensures keeps { M.ReadableMemory.keeps memory.old memory.new }
-    ensures fits { result.length ≤ length reply.old }
+    ensures came { Came (served C.WireCode.which frame.now (length reply.old) (M.means memory.old) settings.now.write_flag (R.lists registration.old)) result reply.old reply.new (M.means memory.new) (R.lists registration.new) }
+    ensures left { let what = served C.WireCode.which frame.now (length reply.old) (M.means memory.old) settings.now.write_flag (R.lists registration.old) in
+        Leads M.leaves memory.old what.writes memory.new }
+    ensures good { R.good registration.old → R.good registration.new }
+    ensures declined { is_some result.fault ≡ true → registration.new ≡ registration.old }
+    ensures fits { (result.taken ≤ length frame.now) × (result.length ≤ length reply.old) }
 {
     match read_frame::<C>(frame, reply.len()) {
-        Ok(header) => answer_frame::<C, M>(
+        Ok(header) => answer_frame::<C, M, R>(
             &frame[..header.size],
             &mut Reply {
                 space: reply,
@@ -168,25 +180,32 @@ fn serve<C: WireCode, M: WritableMemory>(
     }
 }
 
-// Takes the frame at the front of `frame`, in the code that the call names, and writes one reply at the front of `reply`.
+// Takes the frame at the front of `frame`, in the code that the call names, and writes one reply at the front of `reply`, whose bytes behind it are kept.
+// The answer tells the bytes taken, the reply's length and the fault. A frame that is not taken up (1, where `reply` has under 4,096 bytes, to 6) takes
+// nothing and has no reply; a refused request (an end code other than 0000) takes its frame and has an error reply. Either leaves the memory and the
+// registration what they were; an accepted request makes its point writes in the memory and nothing else.
 // A code is a type below, so a code that is a value is picked by a match here.
-pub fn take_frame<M: WritableMemory>(
+pub fn take_frame<M: WritableMemory, R: Registering>(
     code: Code,
     frame: &[u8],
     reply: &mut [u8],
     memory: &mut M,
     settings: &Settings,
-    registration: &mut Registration,
+    registration: &mut R,
 ) -> Answer
-    ensures came { Came (served code frame.now (length reply.old) (M.ReadableMemory.means memory.old) settings.now.write_flag (registered registration.old)) result reply.old reply.new (M.ReadableMemory.means memory.new) (registered registration.new) }
-    ensures keeps { M.ReadableMemory.keeps memory.old memory.new }
-    ensures faults { FaultsMoveNothing result (M.ReadableMemory.means memory.old) (registered registration.old) (M.ReadableMemory.means memory.new) (registered registration.new) }
+    ensures came { Came (served code frame.now (length reply.old) (M.means memory.old) settings.now.write_flag (R.lists registration.old)) result reply.old reply.new (M.means memory.new) (R.lists registration.new) }
+    ensures left { let what = served code frame.now (length reply.old) (M.means memory.old) settings.now.write_flag (R.lists registration.old) in
+        Leads M.leaves memory.old what.writes memory.new }
+    ensures good { R.good registration.old → R.good registration.new }
+    ensures fits { (result.taken ≤ length frame.now) × (result.length ≤ length reply.old) }
+    ensures faults { FaultsMoveNothing result memory.old registration.old memory.new registration.new }
+    ensures reads { ReadsMoveNothing code frame.now (length reply.old) memory.old memory.new }
     ensures space { SpaceKept result reply.old reply.new }
-    ensures alike { AlikeAnswer code frame.now (M.ReadableMemory.means memory.old) settings.now.write_flag (registered registration.old) result reply.old reply.new (M.ReadableMemory.means memory.new) (registered registration.new) }
-    ensures carries { (b : Option Bool) → CarriesOn (state (M.ReadableMemory.means memory.old) settings.now.write_flag b (registered registration.old)) (taking code frame.now reply.old) (taken result.taken result.length result.fault reply.new) (state (M.ReadableMemory.means memory.new) settings.now.write_flag b (registered registration.new)) }
+    ensures alike { AlikeAnswer code frame.now (M.means memory.old) settings.now.write_flag (R.lists registration.old) result reply.old reply.new (M.means memory.new) (R.lists registration.new) }
+    ensures carries { (b : Option Bool) → CarriesOn (state (M.means memory.old) settings.now.write_flag b (R.lists registration.old)) (taking code frame.now reply.old) (taken result.taken result.length result.fault reply.new) (state (M.means memory.new) settings.now.write_flag b (R.lists registration.new)) }
 {
     match code {
-        Code::Binary => serve::<Binary, M>(frame, reply, memory, settings, registration),
-        Code::Ascii => serve::<Ascii, M>(frame, reply, memory, settings, registration),
+        Code::Binary => serve::<Binary, M, R>(frame, reply, memory, settings, registration),
+        Code::Ascii => serve::<Ascii, M, R>(frame, reply, memory, settings, registration),
     }
 }

@@ -1,18 +1,21 @@
 // Writes points read out of a memory into a reply.
-ghost use Rattle.std.specs.Prelude.{◌≡◌, ◌+◌, ◌-◌, ◌*◌, ◌<◌, ◌≤◌, length};
+ghost use Rattle.std.specs.Prelude.{◌≡◌, ◌+◌, ◌-◌, ◌*◌, ◌^◌, ◌<◌, ◌≤◌, length, take, drop};
 ghost use Rattle.std.proofs.lemmas.List.Edits.{sets};
 ghost use Rattle.device.specs.Devices.{kind_of};
 ghost use Rattle.device.specs.declared.types.Kind.TheVariants.{Bit};
 ghost use Rattle.wire.specs.Numbers.{per_byte};
 ghost use Rattle.wire.specs.Series.{values_bytes};
 ghost use Rattle.wire.specs.Points.{bits_bytes, bits_size};
+ghost use Rattle.request.specs.Entries.{access_in};
+ghost use Rattle.request.specs.Fields.{list_in};
 ghost use Rattle.server.specs.Points.{words, bits, bytes_of, values_of};
-ghost use Rattle.server.specs.Registered.{accesses};
+ghost use Rattle.server.specs.Registered.{all_of};
 
 use crate::points::{Width, access_value, value_at, word_at, word_points};
-use crate::registration::Access;
+use crate::registering::Registering;
 use device::Device;
 use memory::ReadableMemory;
+use request::access_at;
 use wire::WireCode;
 
 // Writes so many words from `at` on.
@@ -24,14 +27,14 @@ pub(crate) fn write_words<C: WireCode, M: ReadableMemory>(
     number: u32,
     count: usize,
 )
-    requires { (count ≤ 960) × (at + count * (2 * per_byte C.WireCode.which) ≤ length out.old) }
-    ensures { out.new ≡ sets out.old at (values_bytes C.WireCode.which 2 (words (M.ReadableMemory.means memory.now).value device number count)) }
+    requires { (count ≤ 960) × (number < 2 ^ 24) × (at + count * (2 * per_byte C.WireCode.which) ≤ length out.old) }
+    ensures { out.new ≡ sets out.old at (values_bytes C.WireCode.which 2 (words (M.means memory.now).value device number count)) }
 {
     let step = word_points(device);
     let mut place = at;
     // By index, since points are asked for one at a time by their numbers: there is no list to go over.
-    for i in 0..count {
-        let word = word_at(memory, device, number as usize + i * step);
+    for i in 0..count as u32 {
+        let word = word_at(memory, device, number + i * step);
         place += C::write_number(out, place, 2, u32::from(word));
     }
 }
@@ -45,38 +48,72 @@ pub(crate) fn write_bits<C: WireCode, M: ReadableMemory>(
     number: u32,
     count: usize,
 )
-    requires { (count ≤ 3584) × ((kind_of device ≡ Bit) × (at + bits_size C.WireCode.which count ≤ length out.old)) }
-    ensures { out.new ≡ sets out.old at (bits_bytes C.WireCode.which (bits (M.ReadableMemory.means memory.now).value device number count)) }
+    requires { (count ≤ 3584) × (number < 2 ^ 24) × (kind_of device ≡ Bit) × (at + bits_size C.WireCode.which count ≤ length out.old) }
+    ensures { out.new ≡ sets out.old at (bits_bytes C.WireCode.which (bits (M.means memory.now).value device number count)) }
 {
-    let first = number as usize;
     let mut place = at;
     // By index, since points are asked for one at a time by their numbers: there is no list to go over.
-    for i in 0..count / 2 {
-        let one = value_at(memory, device, first + 2 * i);
-        let other = value_at(memory, device, first + 2 * i + 1);
+    for i in 0..count as u32 / 2 {
+        let one = value_at(memory, device, number + 2 * i);
+        let other = value_at(memory, device, number + 2 * i + 1);
         place += C::write_two_bits(out, place, one, other);
     }
     if count % 2 == 1 {
-        C::write_last_bit(out, place, value_at(memory, device, first + count - 1));
+        C::write_last_bit(
+            out,
+            place,
+            value_at(memory, device, number + count as u32 - 1),
+        );
     }
 }
 
-// Writes the values of accesses of one width from `at` on, and says where they end.
-pub(crate) fn write_accesses<C: WireCode, M: ReadableMemory>(
+// Writes the values of so many accesses of a registration from an index on, and says where they end.
+pub(crate) fn write_kept<C: WireCode, M: ReadableMemory, R: Registering>(
     out: &mut [u8],
     at: usize,
     memory: &M,
-    entries: &[Access],
+    registration: &R,
+    from: usize,
+    count: usize,
     width: Width,
 ) -> usize
-    requires { at + length entries.now * (bytes_of width * per_byte C.WireCode.which) ≤ length out.old }
-    ensures end { result ≡ at + length entries.now * (bytes_of width * per_byte C.WireCode.which) }
-    ensures written { out.new ≡ sets out.old at (values_bytes C.WireCode.which (bytes_of width) (values_of width (M.ReadableMemory.means memory.now).value (accesses entries.now))) }
+    requires { (count ≤ 192) × (from + count ≤ length (all_of (R.lists registration.now))) × (from < 2 ^ 32) × (at + count * (bytes_of width * per_byte C.WireCode.which) ≤ length out.old) }
+    ensures end { result ≡ at + count * (bytes_of width * per_byte C.WireCode.which) }
+    ensures written { out.new ≡ sets out.old at (values_bytes C.WireCode.which (bytes_of width) (values_of width (M.means memory.now).value (take count (drop from (all_of (R.lists registration.now)))))) }
 {
     let mut place = at;
-    for access in entries {
+    // By index, since a registration is asked for one access at a time: there is no list to go over.
+    for i in 0..count {
+        let access = registration.access(from + i);
         let value = access_value(memory, access.device, access.number, width);
         place += C::write_number(out, place, width.bytes(), value);
+    }
+    place
+}
+
+// Writes the values of the accesses of a list, from a place in it on, and says where they end. An access that cannot be read ends them.
+pub(crate) fn write_listed<C: WireCode, M: ReadableMemory>(
+    out: &mut [u8],
+    at: usize,
+    memory: &M,
+    list: &[u8],
+    from: usize,
+    count: usize,
+    width: Width,
+) -> usize
+    requires { (count ≤ 192) × (at + count * (bytes_of width * per_byte C.WireCode.which) ≤ length out.old) }
+    ensures end { result ≡ at + length (list_in (access_in C.WireCode.which) count (drop from list.now)) * (bytes_of width * per_byte C.WireCode.which) }
+    ensures written { out.new ≡ sets out.old at (values_bytes C.WireCode.which (bytes_of width) (values_of width (M.means memory.now).value (list_in (access_in C.WireCode.which) count (drop from list.now)))) }
+{
+    let mut place = at;
+    let mut next = from;
+    for _ in 0..count {
+        let Ok(((device, number), used)) = access_at::<C>(list, next) else {
+            return place;
+        };
+        let value = access_value(memory, device, number, width);
+        place += C::write_number(out, place, width.bytes(), value);
+        next += used;
     }
     place
 }

@@ -1,13 +1,13 @@
 // Writes words and points to any writable memory.
-// Every function here and in `serve` that is handed the memory promises `keeps`, as a write of the memory does: it joins the memory before and after
-// the call, so no type could hold it.
-ghost use Rattle.std.specs.Prelude.{◌≡◌, ◌+◌, ◌*◌, ◌/◌, ◌%◌, ◌^◌, ◌<◌, ◌≤◌, ◌++◌, drop};
+// Each function here says which point writes it puts to the memory, in their order; what they leave of the memory is what the memory's own writes leave.
+ghost use Rattle.std.specs.Prelude.{◌+◌, ◌*◌, ◌/◌, ◌%◌, ◌^◌, ◌<◌, ◌≤◌, ◌++◌, drop};
 ghost use Rattle.wire.specs.Numbers.{per_byte, number_in};
 ghost use Rattle.request.specs.Entries.{setting_in};
 ghost use Rattle.request.specs.Writing.{Each};
 ghost use Rattle.request.specs.Fields.{list_in, bits_in};
 ghost use Rattle.server.specs.Points.{bytes_of};
-ghost use Rattle.server.specs.Writes.{tried, as_point, spread, as_word, as_double, in_row, as_words, each, as_width};
+ghost use Rattle.memory.specs.Leaving.{Leads, Tries};
+ghost use Rattle.server.specs.Writes.{as_point, spread, as_word, as_double, in_row, as_words, each, as_width};
 
 use crate::points::{Width, word_points};
 use device::{Device, Kind};
@@ -17,8 +17,7 @@ use wire::WireCode;
 
 // Gives a point a value; a memory that refuses stays as it is.
 pub(crate) fn put_point<M: WritableMemory>(memory: &mut M, device: Device, number: u32, value: u16)
-    ensures means { M.ReadableMemory.means memory.new ≡ tried (M.ReadableMemory.means memory.old) (as_point device number value) }
-    ensures keeps { M.ReadableMemory.keeps memory.old memory.new }
+    ensures { Leads (Tries M.means M.leaves) memory.old (as_point device number value) memory.new }
 {
     let _ = memory.write(device, number, value);
 }
@@ -26,8 +25,7 @@ pub(crate) fn put_point<M: WritableMemory>(memory: &mut M, device: Device, numbe
 // Gives sixteen bit points the bits of a word, the lowest number bit 0.
 fn put_sixteen<M: WritableMemory>(memory: &mut M, device: Device, number: u32, value: u16)
     requires { number < 2 ^ 31 }
-    ensures means { M.ReadableMemory.means memory.new ≡ tried (M.ReadableMemory.means memory.old) (spread device number 16 value) }
-    ensures keeps { M.ReadableMemory.keeps memory.old memory.new }
+    ensures { Leads (Tries M.means M.leaves) memory.old (spread device number 16 value) memory.new }
 {
     // By index, since points are given by their numbers, and bits by their places: there is no list of either.
     for i in 0..16u32 {
@@ -38,8 +36,7 @@ fn put_sixteen<M: WritableMemory>(memory: &mut M, device: Device, number: u32, v
 // Gives the word that begins at a point a value.
 pub(crate) fn put_word<M: WritableMemory>(memory: &mut M, device: Device, number: u32, value: u16)
     requires { number < 2 ^ 31 }
-    ensures means { M.ReadableMemory.means memory.new ≡ tried (M.ReadableMemory.means memory.old) (as_word device number value) }
-    ensures keeps { M.ReadableMemory.keeps memory.old memory.new }
+    ensures { Leads (Tries M.means M.leaves) memory.old (as_word device number value) memory.new }
 {
     match device.kind() {
         Kind::Bit => put_sixteen(memory, device, number, value),
@@ -50,14 +47,13 @@ pub(crate) fn put_word<M: WritableMemory>(memory: &mut M, device: Device, number
 // Gives the double word that begins at a point a value: the low word first.
 pub(crate) fn put_double<M: WritableMemory>(memory: &mut M, device: Device, number: u32, value: u32)
     requires { number < 2 ^ 30 }
-    ensures means { M.ReadableMemory.means memory.new ≡ tried (M.ReadableMemory.means memory.old) (as_double device number value) }
-    ensures keeps { M.ReadableMemory.keeps memory.old memory.new }
+    ensures { Leads (Tries M.means M.leaves) memory.old (as_double device number value) memory.new }
 {
     put_word(memory, device, number, (value % 65536) as u16);
     put_word(
         memory,
         device,
-        number + word_points(device) as u32,
+        number + word_points(device),
         (value / 65536) as u16,
     );
 }
@@ -71,8 +67,7 @@ pub(crate) fn put_bits<C: WireCode, M: WritableMemory>(
     bytes: &[u8],
 )
     requires { (count ≤ 3584) × (number < 2 ^ 24) }
-    ensures means { M.ReadableMemory.means memory.new ≡ tried (M.ReadableMemory.means memory.old) (in_row device number (bits_in C.WireCode.which bytes.now 0 count)) }
-    ensures keeps { M.ReadableMemory.keeps memory.old memory.new }
+    ensures { Leads (Tries M.means M.leaves) memory.old (in_row device number (bits_in C.WireCode.which bytes.now 0 count)) memory.new }
 {
     // By index, since a point is given by its number and a bit by its place: there is no list of either.
     for i in 0..count {
@@ -91,11 +86,10 @@ pub(crate) fn put_words<C: WireCode, M: WritableMemory>(
     bytes: &[u8],
 )
     requires { (count ≤ 960) × (number < 2 ^ 24) }
-    ensures means { M.ReadableMemory.means memory.new ≡ tried (M.ReadableMemory.means memory.old) (as_words device number (list_in (number_in C.WireCode.which 2) count bytes.now)) }
-    ensures keeps { M.ReadableMemory.keeps memory.old memory.new }
+    ensures leads { Leads (Tries M.means M.leaves) memory.old (as_words device number (list_in (number_in C.WireCode.which 2) count bytes.now)) memory.new }
     ensures small { Each (λ v. v < 65536) (list_in (number_in C.WireCode.which 2) count bytes.now) }
 {
-    let step = word_points(device) as u32;
+    let step = word_points(device);
     let mut place = 0;
     for i in 0..count {
         let Ok((value, used)) = word_at::<C>(bytes, place) else {
@@ -115,8 +109,7 @@ fn put_access<M: WritableMemory>(
     width: Width,
 )
     requires { (number < 2 ^ 24) × (value < 256 ^ bytes_of width) }
-    ensures means { M.ReadableMemory.means memory.new ≡ tried (M.ReadableMemory.means memory.old) (as_width width device number value) }
-    ensures keeps { M.ReadableMemory.keeps memory.old memory.new }
+    ensures { Leads (Tries M.means M.leaves) memory.old (as_width width device number value) memory.new }
 {
     match width {
         Width::Point => put_point(memory, device, number, value as u16),
@@ -133,8 +126,7 @@ pub(crate) fn put_settings<C: WireCode, M: WritableMemory>(
     count: usize,
     width: Width,
 )
-    ensures means { M.ReadableMemory.means memory.new ≡ tried (M.ReadableMemory.means memory.old) (each (as_width width) (list_in (setting_in C.WireCode.which (bytes_of width)) count (drop from list.now))) }
-    ensures keeps { M.ReadableMemory.keeps memory.old memory.new }
+    ensures leads { Leads (Tries M.means M.leaves) memory.old (each (as_width width) (list_in (setting_in C.WireCode.which (bytes_of width)) count (drop from list.now))) memory.new }
     ensures small { Each (λ s. s.1 < 256 ^ bytes_of width) (list_in (setting_in C.WireCode.which (bytes_of width)) count (drop from list.now)) }
 {
     let mut place = from;
@@ -154,8 +146,7 @@ pub(crate) fn put_random_bits<C: WireCode, M: WritableMemory>(
     list: &[u8],
     count: usize,
 )
-    ensures means { M.ReadableMemory.means memory.new ≡ tried (M.ReadableMemory.means memory.old) (each as_point (list_in (setting_in C.WireCode.which 1) count list.now)) }
-    ensures keeps { M.ReadableMemory.keeps memory.old memory.new }
+    ensures { Leads (Tries M.means M.leaves) memory.old (each as_point (list_in (setting_in C.WireCode.which 1) count list.now)) memory.new }
 {
     put_settings::<C, M>(memory, list, 0, count, Width::Point);
 }
@@ -168,8 +159,7 @@ pub(crate) fn put_random<C: WireCode, M: WritableMemory>(
     doubles: usize,
 )
     requires { words ≤ 256 }
-    ensures means { M.ReadableMemory.means memory.new ≡ tried (M.ReadableMemory.means memory.old) (each as_word (list_in (setting_in C.WireCode.which 2) words list.now) ++ each as_double (list_in (setting_in C.WireCode.which 4) doubles (drop (words * (6 * per_byte C.WireCode.which)) list.now))) }
-    ensures keeps { M.ReadableMemory.keeps memory.old memory.new }
+    ensures leads { Leads (Tries M.means M.leaves) memory.old (each as_word (list_in (setting_in C.WireCode.which 2) words list.now) ++ each as_double (list_in (setting_in C.WireCode.which 4) doubles (drop (words * (6 * per_byte C.WireCode.which)) list.now))) memory.new }
     ensures words { Each (λ s. s.1 < 256 ^ 2) (list_in (setting_in C.WireCode.which 2) words list.now) }
     ensures doubles { Each (λ s. s.1 < 256 ^ 4) (list_in (setting_in C.WireCode.which 4) doubles (drop (words * (6 * per_byte C.WireCode.which)) list.now)) }
 {

@@ -1,13 +1,14 @@
 -- A run of a sheet is a history.
-use Rattle.std.proofs.Common.{◌≡◌, ℕ, zero, suc, ◌+◌, Bool, true, false, cond, List, [], ◌∷◌, ◌++◌, length, Some, None, Ok, Err, Option, Result, refl, ap, ◌∙◌, subst, arith}
+use Rattle.std.proofs.Common.{◌≡◌, ℕ, zero, suc, ◌+◌, Bool, true, false, cond, List, [], ◌∷◌, ◌++◌, length, Some, None, Ok, Err, Option, Result, sym, refl, ap, ◌∙◌, subst, arith}
 use lib.Seq.{sets}
 use Rattle.memory.specs.Meaning.{Meaning}
+use Rattle.memory.specs.Leaving.{Leaving, Leads}
 use Rattle.wire.specs.declared.code.Code.{Code}
 use Rattle.frame.specs.declared.fault.Cause.TheVariants.{NoVersion}
 use Rattle.frame.specs.declared.fault.Fault.{Fault}
 use Rattle.frame.specs.Faults.{fault}
 use Rattle.server.specs.Registered.{Listed}
-use Rattle.server.specs.Histories.{Move, ending, Shown, State, state, at_frame, shown, after, closed, Reached}
+use Rattle.server.specs.Histories.{Move, ending, Shown, State, state, at_frame, step, made_by, made_through, shown, after, closed, Reached}
 use Rattle.history.specs.Latest.{KeptOn}
 use Rattle.history.proofs.Onward.{at_rest}
 use Rattle.history.proofs.Latest.{kept_on}
@@ -113,3 +114,20 @@ no_version code sheet allowed space m f g v =
 -- a history that led to a state at rest is carried on by another
 pub onward : (m m' : Meaning) (f f' : Bool) (g g' : Option Listed) (ms : List Move) (os : List Shown) → Reached (state m f None g) ms os (state m' f' None g') → KeptOn (state m f None g) ms os (state m' f' None g')
 onward m m' f f' g g' ms os r = kept_on _ _ ms os (at_rest _ ms os m' f' g' r)
+
+-- a whole run leads the memory through the writes of its frames
+made_end : (s : State) (ms : List Move) → made_through s (ms ++ ending ∷ []) ≡ made_through s ms
+made_end s [] = refl
+made_end s (m ∷ ms) = ap (λ ws. made_by s m ++ ws) (made_end (step s m) ms)
+
+module _ {S : Type 0} (leaves : Leaving S) (code : Code) (sheet : List ℕ) (allowed : ℕ) (space : List ℕ) (m : Meaning) (f : Bool) (g : Option Listed) where
+  pub led_whole : (y z : S) → true ≡ has_version sheet → Leads leaves y (made_through (state m true (Some f) g) (records code sheet allowed 1 0 space (state m true (Some f) g)).calls) z
+      → Leads leaves y (made_through (state m f None g) (sheet_run code sheet allowed space (state m f None g)).calls) z
+  led_whole y z v l =
+      let inside = records code sheet allowed 1 0 space (state m true (Some f) g) in
+      let run : Leads leaves y (made_through (state m f None g) (in_window inside).calls) z = subst (λ ws. Leads leaves y ws z) (sym (made_end (state m true (Some f) g) inside.calls)) l in
+      subst (λ x. Leads leaves y (made_through (state m f None g) (cond x (in_window inside) (stop (Stopped (fault NoVersion 0)) 0 0 space (state m f None g))).calls) z) v run
+
+  pub led_no_version : (y : S) → false ≡ has_version sheet → Leads leaves y (made_through (state m f None g) (sheet_run code sheet allowed space (state m f None g)).calls) y
+  led_no_version y v =
+      subst (λ x. Leads leaves y (made_through (state m f None g) (cond x (in_window (records code sheet allowed 1 0 space (state m true (Some f) g))) (stop (Stopped (fault NoVersion 0)) 0 0 space (state m f None g))).calls) y) v refl

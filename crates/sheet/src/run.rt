@@ -1,7 +1,8 @@
 // Runs of sheets.
 ghost use Rattle.std.specs.Prelude.{◌≡◌, ◌≤◌, Bool, true, length, None, Option};
 ghost use Rattle.server.specs.Registered.{registered};
-ghost use Rattle.server.specs.Histories.{state, shown};
+ghost use Rattle.memory.specs.Leaving.{Leads};
+ghost use Rattle.server.specs.Histories.{state, shown, made_through};
 ghost use Rattle.history.specs.Latest.{KeptOn};
 ghost use Rattle.sheet.specs.Runs.{ended_by, over_at, records, has_version, sheet_run};
 ghost use Rattle.sheet.specs.Laws.{IsHistory};
@@ -65,7 +66,8 @@ fn run_records<M: WritableMemory>(
     requires begun { 1 ≤ length sheet.now }
     requires on { settings.now.write_flag ≡ true }
     ensures ends { (b : Option Bool) → ended_by result.reason result.count result.next reply.new (state (M.ReadableMemory.means memory.new) true b (registered registration.new)) ≡ (records code sheet.now cancel 1 0 reply.old (state (M.ReadableMemory.means memory.old) true b (registered registration.old))).end }
-    ensures keeps { M.ReadableMemory.keeps memory.old memory.new }
+    ensures led { let s = λ (b : Option Bool). state (M.means memory.old) true b (registered registration.old) in
+        (b : Option Bool) → Leads M.leaves memory.old (made_through (s b) (records code sheet.now cancel 1 0 reply.old (s b)).calls) memory.new }
 {
     // A loop that breaks with its reason: each turn writes memory, reply and registration, the place goes on by the length that a record says,
     // and a record counts only once its reply tells no error.
@@ -108,15 +110,17 @@ fn run_in_window<M: WritableMemory>(
     requires { 1 ≤ length sheet.now }
     ensures ends { (b : Option Bool) → ended_by result.reason result.count result.next reply.new (state (M.ReadableMemory.means memory.new) true b (registered registration.new)) ≡ (records code sheet.now cancel 1 0 reply.old (state (M.ReadableMemory.means memory.old) true b (registered registration.old))).end }
     ensures flag { settings.new.write_flag ≡ settings.old.write_flag }
-    ensures keeps { M.ReadableMemory.keeps memory.old memory.new }
+    ensures led { let s = λ (b : Option Bool). state (M.means memory.old) true b (registered registration.old) in
+        (b : Option Bool) → Leads M.leaves memory.old (made_through (s b) (records code sheet.now cancel 1 0 reply.old (s b)).calls) memory.new }
 {
     let window = Window::open(settings);
     let settings = window.settings();
     run_records(code, sheet, cancel, reply, memory, settings, registration)
 }
 
-// Runs a sheet: a version byte, and records one behind the other, each with one frame. At most `cancel` frames are taken, and the first error ends the run.
-// The last reply stands at the front of `reply`, and the write flag is what it was before.
+// Runs a sheet: a version byte, and records one behind the other, each with one frame. At most `cancel` frames are taken, and the first error ends the run:
+// 7, with no version byte, before anything is changed; 8, with a bad record, or the fault of a frame, behind the frames before. The answer tells the reason,
+// the count of accepted frames and the place of the next untaken record. The last reply stands at the front of `reply`, and the write flag is what it was.
 pub fn run_sheet<M: WritableMemory>(
     server: &mut Server<M>,
     code: Code,
@@ -127,7 +131,8 @@ pub fn run_sheet<M: WritableMemory>(
     ensures ends { result ≡ (sheet_run code sheet.now cancel reply.old (state (M.ReadableMemory.means server.old.memory) server.old.settings.write_flag None (registered server.old.registration))).end.result }
     ensures space { reply.new ≡ (sheet_run code sheet.now cancel reply.old (state (M.ReadableMemory.means server.old.memory) server.old.settings.write_flag None (registered server.old.registration))).end.space }
     ensures flag { server.new.settings.write_flag ≡ server.old.settings.write_flag }
-    ensures keeps { M.ReadableMemory.keeps server.old.memory server.new.memory }
+    ensures led { let s = state (M.means server.old.memory) server.old.settings.write_flag None (registered server.old.registration) in
+        Leads M.leaves server.old.memory (made_through s (sheet_run code sheet.now cancel reply.old s).calls) server.new.memory }
     ensures history { IsHistory (state (M.ReadableMemory.means server.old.memory) server.old.settings.write_flag None (registered server.old.registration)) reply.old (sheet_run code sheet.now cancel reply.old (state (M.ReadableMemory.means server.old.memory) server.old.settings.write_flag None (registered server.old.registration))).calls result reply.new (state (M.ReadableMemory.means server.new.memory) server.new.settings.write_flag None (registered server.new.registration)) }
     ensures onward { KeptOn (state (M.ReadableMemory.means server.old.memory) server.old.settings.write_flag None (registered server.old.registration)) (sheet_run code sheet.now cancel reply.old (state (M.ReadableMemory.means server.old.memory) server.old.settings.write_flag None (registered server.old.registration))).calls (shown (state (M.ReadableMemory.means server.old.memory) server.old.settings.write_flag None (registered server.old.registration)) (sheet_run code sheet.now cancel reply.old (state (M.ReadableMemory.means server.old.memory) server.old.settings.write_flag None (registered server.old.registration))).calls) (state (M.ReadableMemory.means server.new.memory) server.new.settings.write_flag None (registered server.new.registration)) }
 {

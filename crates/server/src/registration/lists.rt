@@ -4,9 +4,11 @@ ghost use Rattle.std.proofs.lemmas.List.Edits.{sets};
 ghost use Rattle.wire.specs.Numbers.{per_byte};
 ghost use Rattle.request.specs.Fields.{list_in};
 ghost use Rattle.request.specs.Entries.{access_in};
-ghost use Rattle.server.specs.Registered.{accesses, registered, words_in, doubles_in};
+ghost use Rattle.server.specs.Counts.{counted};
+ghost use Rattle.server.specs.Registered.{accesses, registered};
 
 use super::{Access, Registration};
+use crate::registering::Registering;
 use device::Device;
 use request::access_at;
 use wire::WireCode;
@@ -32,7 +34,7 @@ fn fill<C: WireCode>(entries: &mut [Access], list: &[u8], from: usize)
 }
 
 // The registration of a list that was read: so many words, and then double words.
-pub(crate) fn listed<C: WireCode>(list: &[u8], words: usize, doubles: usize) -> Registration
+fn listed<C: WireCode>(list: &[u8], words: usize, doubles: usize) -> Registration
     requires few { words + doubles ≤ 192 }
     requires whole { (length (list_in (access_in C.WireCode.which) words list.now) ≡ words) × (length (list_in (access_in C.WireCode.which) doubles (drop (words * (4 * per_byte C.WireCode.which)) list.now)) ≡ doubles) }
     ensures { registered result ≡ Some (list_in (access_in C.WireCode.which) words list.now, list_in (access_in C.WireCode.which) doubles (drop (words * (4 * per_byte C.WireCode.which)) list.now)) }
@@ -70,27 +72,44 @@ impl Registration {
 
     // How many accesses are registered, if any are.
     pub fn count(&self) -> Option<usize>
-        ensures { result ≡ self.now.count }
+        ensures value { result ≡ self.now.count }
+        ensures few { counted result ≤ 192 }
     {
         self.count
     }
 
-    // The accesses of one word.
-    pub(crate) fn words(&self) -> &[Access]
-        ensures value { accesses result.now ≡ words_in self.now }
-        ensures few { length result.now ≤ 192 }
+    // How many of them are of one word; they stand in front.
+    pub fn word_count(&self) -> usize
+        ensures value { result ≡ self.now.words }
+        ensures part { result ≤ counted self.now.count }
     {
-        &self.entries[..self.words]
+        self.words
     }
 
-    // The accesses of a double word, which stand behind.
-    pub(crate) fn doubles(&self) -> &[Access]
-        ensures value { accesses result.now ≡ doubles_in self.now }
-        ensures few { length result.now ≤ 192 }
+    // All the entries, of which those behind the registered accesses hold none.
+    pub fn entries(&self) -> &[Access; 192]
+        ensures { result.now ≡ self.now.entries }
     {
-        match self.count {
-            Some(count) => &self.entries[self.words..count],
-            None => &[],
-        }
+        &self.entries
+    }
+}
+
+impl Registering for Registration {
+    ghost lists = { registered };
+
+    ghost good = { λ _. Unit {0} };
+
+    fn counts(&self) -> Option<(usize, usize)> {
+        self.count.map(|count| (self.words, count - self.words))
+    }
+
+    fn access(&self, index: usize) -> Access {
+        self.entries[index]
+    }
+
+    // Not inlined, since a function clears its locals at its entry, and a list is large.
+    #[inline(never)]
+    fn replace<C: WireCode>(&mut self, list: &[u8], words: usize, doubles: usize) {
+        *self = listed::<C>(list, words, doubles);
     }
 }

@@ -2,7 +2,8 @@ use Rattle.std.proofs.Common.{◌≡◌, ◌+◌, ◌<◌, ◌≤◌, length, ta
 use Rattle.std.specs.Slice.Iter.{iter_rest}
 use Rattle.server.specs.Registered.{registered}
 use Rattle.history.specs.Moves.{moves, tellings, Left}
-use Rattle.server.specs.Histories.{state, Reached, Ran}
+use Rattle.memory.specs.Leaving.{Leads}
+use Rattle.server.specs.Histories.{state, made_through, Reached, Ran}
 use Rattle.history.proofs.replaying.run_calls.Given as goal
 
 abbrev pub invariant-loop-call : goal.invariant-loop-call
@@ -16,7 +17,7 @@ invariant-loop-call g l =
     let to = state (m.means v.memory) e.settings.write_flag None (registered v.registration) in record {
       whole : k + length (iter_rest l.calls) ≡ length l.fn.calls;
       room : length l.fn.calls ≤ vec_capacity l.outcomes;
-      keeps : m.keeps e.memory v.memory;
+      led : Leads g.M.WritableMemory.leaves e.memory (made_through from (take k all)) v.memory;
       flag : v.settings.write_flag ≡ e.settings.write_flag;
       left : Left all k (iter_rest l.calls);
       ran : Ran from (take k all) (tellings (vec_items l.outcomes)) to;

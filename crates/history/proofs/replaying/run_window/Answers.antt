@@ -2,6 +2,8 @@ use Rattle.std.proofs.Common.{true, length, Some, sym, refl, ap, ◌∙◌, arit
 use Rattle.server.specs.Histories.{window}
 use Rattle.history.specs.Moves.{move}
 use Rattle.history.proofs.Onward.{one_more, left_on, ended, stays_in, with_flag, with_was, at_rest}
+use Rattle.server.specs.Registered.{registered}
+use Rattle.history.proofs.Led.{led_more, led_flag}
 use Rattle.history.proofs.replaying.run_window.Goals as goal
 
 pub returns-in-End-clause-ran : goal.returns-in-End-clause-ran
@@ -27,17 +29,30 @@ returns-in-End-clause-left g c =
 pub loop-call-preserved : goal.loop-call-preserved
 loop-call-preserved g c =
     let i = c.loop-call.invariant in
+    let leaves = g.M.WritableMemory.leaves in
     let was = c.open-window.result.was in
     let put = c.push_reserved-in-Some.ensures in
     let here = c.in-Some.ensures.steps in
     let flag = ap (λ s. s.write_flag) c.settings.ensures.value ∙ c.open-window.ensures.on in
     let stays = stays_in was c.in-Some.call.now c.in_default-call.not-End in
     let one = with_flag _ _ _ true (Some was) _ _ _ _ flag (c.in_ok-outcome.ensures.carries (Some was) stays) in
+    let x = c.loop-call in
+    let put_on = led_flag leaves (g.M.ReadableMemory.means x.memory) c.settings.result.now.write_flag true (Some was) (registered x.registration) (move c.in-Some.call.now) x.memory c.carry_out.new.memory flag
+    (c.in_ok-outcome.ensures.left (Some was)) in
     record {
       few = omega (arith, i.few, put.len);
       whole = omega (arith, i.whole, put.len, ap length here);
       room = search rules;
-      keeps = g.M.ReadableMemory.sound.kept_on _ _ _ i.keeps c.carry_out.ensures.keeps;
       left = λ all left. left_on all _ _ _ _ _ put.len here (i.left all left);
       reached = λ s all left h. one_more s all _ _ _ _ _ _ _ _ _ _ _ put.len here refl put.items one (i.left all left) (i.reached s all left h);
+      led = λ s all from left h l. led_more leaves s all _ _ _ _ _ _ _ _ from _ _ put.len here refl (i.left all left) (i.reached s all left h) (i.led s all from left h l) put_on;
     }
+
+pub returns-in-End-clause-led : goal.returns-in-End-clause-led
+returns-in-End-clause-led g c =
+    let i = c.loop-call.invariant in
+    let was = c.open-window.ensures.was in
+    let put = c.push_reserved.ensures in
+    λ s all from left h l.
+    let h' = with_was s _ _ _ _ _ _ (sym was) h in
+    led_more g.M.WritableMemory.leaves s all _ _ _ _ _ _ _ _ from _ _ put.len c.in-Some.ensures.steps (ap move c.in-End.is) (i.left all left) (i.reached s all left h') (i.led s all from left h' l) refl

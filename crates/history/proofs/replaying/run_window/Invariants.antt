@@ -2,7 +2,8 @@ use Rattle.std.proofs.Common.{◌≡◌, ◌+◌, ◌≤◌, true, List, length,
 use Rattle.std.specs.Slice.Iter.{iter_rest}
 use Rattle.server.specs.Registered.{registered}
 use Rattle.history.specs.Moves.{tellings, Left}
-use Rattle.server.specs.Histories.{Move, State, state, Reached}
+use Rattle.memory.specs.Leaving.{Leads}
+use Rattle.server.specs.Histories.{Move, State, state, made_through, Reached}
 use Rattle.history.proofs.replaying.run_window.Given as goal
 
 abbrev pub invariant-loop-call : goal.invariant-loop-call
@@ -15,10 +16,11 @@ invariant-loop-call g l =
       few : n ≤ k;
       whole : k + length (iter_rest l.calls) ≡ n + length (iter_rest e.calls);
       room : n + length (iter_rest e.calls) ≤ vec_capacity l.outcomes;
-      keeps : m.keeps e.memory l.memory;
       left : (all : List Move) → Left all n (iter_rest e.calls) → Left all k (iter_rest l.calls);
       reached : (s : State) (all : List Move) → Left all n (iter_rest e.calls) → Reached s (take n all) (tellings (vec_items e.outcomes)) (state (m.means e.memory) true (Some was) (registered e.registration))
           → Reached s (take k all) (tellings (vec_items l.outcomes)) (state (m.means l.memory) true (Some was) (registered l.registration));
+      led : (s : State) (all : List Move) (from : g.row.M.Denot) → Left all n (iter_rest e.calls) → Reached s (take n all) (tellings (vec_items e.outcomes)) (state (m.means e.memory) true (Some was) (registered e.registration))
+          → Leads g.M.WritableMemory.leaves from (made_through s (take n all)) e.memory → Leads g.M.WritableMemory.leaves from (made_through s (take k all)) l.memory;
     }
 
 abbrev pub decreases-loop-call : goal.decreases-loop-call

@@ -1,26 +1,36 @@
-use Rattle.std.proofs.Common.{◌≡◌, ◌+◌, ◌-◌, sym, ap, ◌∙◌, arith}
+use Rattle.std.proofs.Common.{◌≡◌, ◌+◌, ◌-◌, ap, subst, arith}
+use Rattle.memory.specs.Leaving.{Leads, Tries}
 use Rattle.request.specs.Fields.{bit_in, bits_in}
-use Rattle.server.specs.Writes.{tried, in_row, as_point}
-use Rattle.server.proofs.Trying.{tried_none, tried_more}
+use Rattle.server.specs.Writes.{in_row, as_point}
+use Rattle.server.proofs.Trying.{rest_all, rest_turn, rest_none}
 use Rattle.server.proofs.Listing.{bits_more}
 use Rattle.server.proofs.storing.put_bits.Goals as goal
+
+pub loop-i-init : goal.loop-i-init
+loop-i-init g c =
+    let x = c.args in
+    let R = Tries g.M.ReadableMemory.means g.M.WritableMemory.leaves in
+    let code = g.C.WireCode.which in
+    let start : x.number + 0 ≡ x.number = omega arith in
+    let whole : x.count - 0 ≡ x.count = omega arith in
+    rest_all R x.memory.now _ _ (λ i. in_row x.device (start i) (bits_in code x.bytes.now 0 (whole i)))
 
 pub loop-i-preserved : goal.loop-i-preserved
 loop-i-preserved g c =
     let x = c.args in
     let l = c.loop-i in
-    let m = g.M.ReadableMemory.means in
+    let R = Tries g.M.ReadableMemory.means g.M.WritableMemory.leaves in
     let code = g.C.WireCode.which in
-    let put = c.put_point.ensures.means ∙ ap (λ v. tried (m l.memory) (as_point x.device (x.number + l.i) v)) c.bit_at.ensures.value in (
-      tried_more (m l.memory) (m c.put_point.new.memory) (as_point x.device (x.number + l.i) (bit_in code x.bytes.now l.i)) _ put
-          (ap (tried (m l.memory)) (bits_more code x.bytes.now x.device x.number x.count l.i (omega arith)) ∙ l.invariant.0),
-      g.M.ReadableMemory.sound.kept_on _ _ _ l.invariant.1 c.put_point.ensures.keeps,
-    )
+    let one = as_point x.device (x.number + l.i) (bit_in code x.bytes.now l.i) in
+    let put : Leads R l.memory one c.put_point.new.memory =
+    subst (λ v. Leads R l.memory (as_point x.device (x.number + l.i) v) c.put_point.new.memory) c.bit_at.ensures.value c.put_point.ensures in
+    rest_turn R x.memory.now (in_row x.device x.number (bits_in code x.bytes.now 0 x.count)) l.memory c.put_point.new.memory one _ _ l.invariant put (bits_more code x.bytes.now x.device x.number x.count l.i (omega arith))
 
-pub returns-clause-means : goal.returns-clause-means
-returns-clause-means g c =
+pub returns : goal.returns
+returns g c =
     let x = c.args in
     let l = c.loop-i in
-    let m = g.M.ReadableMemory.means in
+    let R = Tries g.M.ReadableMemory.means g.M.WritableMemory.leaves in
+    let code = g.C.WireCode.which in
     let none : x.count - l.i ≡ 0 = omega arith in
-    sym (ap (λ k. tried (m l.memory) (in_row x.device (x.number + l.i) (bits_in g.C.WireCode.which x.bytes.now l.i k))) none ∙ tried_none (m l.memory)) ∙ l.invariant.0
+    rest_none R x.memory.now (in_row x.device x.number (bits_in code x.bytes.now 0 x.count)) l.memory _ l.invariant (ap (λ k. in_row x.device (x.number + l.i) (bits_in code x.bytes.now l.i k)) none)

@@ -1,8 +1,8 @@
-use Rattle.server.proofs.Trying.{tried_one}
+use Rattle.server.proofs.Trying.{tries_one}
 use Rattle.server.proofs.storing.put_point.Goals as goal
 
-pub returns-clause-means : goal.returns-clause-means
-returns-clause-means g c =
+pub returns : goal.returns
+returns g c =
     let x = c.args in
-    let m = g.M.ReadableMemory.means in
-    tried_one (m x.memory.now) (m c.write.new.self) x.device x.number x.value c.write.result c.write.ensures.answer c.write.ensures.meaning
+    let w = c.write.ensures in
+    tries_one g.M.ReadableMemory.means g.M.WritableMemory.leaves x.memory.now c.write.new.self x.device x.number x.value c.write.result w.answer w.meaning w.left

@@ -1,9 +1,11 @@
-use Rattle.std.proofs.Common.{ap, ◌∙◌}
+use Rattle.std.proofs.Common.{subst}
 use Rattle.device.specs.declared.types.Kind.{Kind}
-use Rattle.server.specs.Writes.{tried, word_write}
+use Rattle.memory.specs.Leaving.{Leads, Tries}
+use Rattle.server.specs.Writes.{word_write}
 use Rattle.server.proofs.storing.put_word.Goals as goal
 
-pub returns-in-Bit-clause-means : goal.returns-in-Bit-clause-means
-returns-in-Bit-clause-means g c =
+pub returns-in-Bit : goal.returns-in-Bit
+returns-in-Bit g c =
     let x = c.args in
-    c.put_sixteen.ensures.means ∙ ap (λ (k : Kind). tried (g.M.ReadableMemory.means x.memory.now) (word_write k x.device x.number x.value)) c.in-Bit.ensures
+    let R = Tries g.M.ReadableMemory.means g.M.WritableMemory.leaves in
+    subst (λ (k : Kind). Leads R x.memory.now (word_write k x.device x.number x.value) c.put_sixteen.new.memory) c.in-Bit.ensures c.put_sixteen.ensures
