@@ -1,0 +1,13 @@
+use Rattle.std.proofs.Common.{sym, ap, ◌∙◌}
+use Rattle.memory.specs.Stored.{stored}
+use Rattle.memory.specs.declared.layout.Form.TheVariants.{Packed}
+use Rattle.memory.proofs.Points.{all_put}
+use Rattle.embed.proofs.packed.take_over.Goals as goal
+
+pub returns : goal.returns
+returns c =
+    let l = all_put Packed (λ s. s.units.ghost_name) (λ s. s.extents) (λ s. s.starts) (λ s. s.units.now) (λ s. s.fits) _ c.args.tables.now c.take.new.memory c.take.ensures.left in
+    record {
+      name = l.place;
+      taken = record { told = c.take.ensures.told; units = l.units; kept = l.kept; means = sym (ap (stored Packed c.take.new.memory.units.now) l.extents) ∙ c.take.ensures.means };
+    }

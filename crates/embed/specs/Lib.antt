@@ -1,0 +1,4 @@
+pub mod Arguments
+pub mod Registered
+pub mod Results
+pub mod Taking
