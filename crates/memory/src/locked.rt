@@ -42,7 +42,12 @@ impl<M: WritableMemory> Locked<M> {
 impl<M: ReadableMemory> ReadableMemory for Locked<M> {
     ghost means = { λ s. under s.locks.ranges.items (M.means s.below) };
 
-    ghost sound = { record { small = λ s. M.sound.small s.below; narrow = λ s. M.sound.narrow s.below; outside = λ s. M.sound.outside s.below; shut = λ s d n h. shut_under s.locks.ranges.items (M.means s.below) d n (M.sound.shut s.below d n h) } };
+    ghost sound = { record {
+      small = λ s. M.sound.small s.below;
+      narrow = λ s. M.sound.narrow s.below;
+      outside = λ s. M.sound.outside s.below;
+      shut = λ s d n h. shut_under s.locks.ranges.items (M.means s.below) d n (M.sound.shut s.below d n h);
+    } };
 
     fn extent(&self, device: Device) -> u32 {
         self.below.extent(device)

@@ -6,7 +6,7 @@ ghost use Rattle.wire.specs.Numbers.{per_byte};
 ghost use Rattle.request.specs.Fields.{list_in};
 ghost use Rattle.request.specs.Entries.{access_in};
 ghost use Rattle.server.specs.Points.{words, bits};
-ghost use Rattle.server.specs.Registered.{words_of, doubles_of};
+ghost use Rattle.server.specs.Registered.{Listed, words_of, doubles_of};
 ghost use Rattle.server.specs.Answers.{accepted, refused, no_data, in_bits, in_words, answer_bytes};
 ghost use Rattle.server.specs.Serves.{Tells, Replies, shown_list, monitored};
 
@@ -112,8 +112,11 @@ impl Reply<'_> {
         doubles: usize,
     ) -> Answer
         requires few { words + doubles ≤ 192 }
-        requires whole { (length (list_in (access_in C.WireCode.which) words list.now) ≡ words) × (length (list_in (access_in C.WireCode.which) doubles (drop (words * (4 * per_byte C.WireCode.which)) list.now)) ≡ doubles) }
-        ensures tells { Replies C.WireCode.which self.old.header (shown_list (M.means memory.now) (list_in (access_in C.WireCode.which) words list.now, list_in (access_in C.WireCode.which) doubles (drop (words * (4 * per_byte C.WireCode.which)) list.now))) result self.old.space.now self.new.space.now }
+        requires whole { let behind = drop (words * (4 * per_byte C.WireCode.which)) list.now in
+            (length (list_in (access_in C.WireCode.which) words list.now) ≡ words) × (length (list_in (access_in C.WireCode.which) doubles behind) ≡ doubles) }
+        ensures tells { let behind = drop (words * (4 * per_byte C.WireCode.which)) list.now in
+            let listed : Listed = (list_in (access_in C.WireCode.which) words list.now, list_in (access_in C.WireCode.which) doubles behind) in
+            Replies C.WireCode.which self.old.header (shown_list (M.means memory.now) listed) result self.old.space.now self.new.space.now }
         ensures name { self.new.space.ghost_name ≡ self.old.space.ghost_name }
         ensures fits { result.length ≤ length self.old.space.now }
     {
@@ -143,7 +146,8 @@ impl Reply<'_> {
     ) -> Answer
         requires few { words + doubles ≤ 192 }
         requires many { (length (words_of (R.lists registration.now)) ≡ words) × (length (doubles_of (R.lists registration.now)) ≡ doubles) }
-        ensures tells { Replies C.WireCode.which self.old.header (shown_list (M.means memory.now) (words_of (R.lists registration.now), doubles_of (R.lists registration.now))) result self.old.space.now self.new.space.now }
+        ensures tells { let listed : Listed = (words_of (R.lists registration.now), doubles_of (R.lists registration.now)) in
+            Replies C.WireCode.which self.old.header (shown_list (M.means memory.now) listed) result self.old.space.now self.new.space.now }
         ensures name { self.new.space.ghost_name ≡ self.old.space.ghost_name }
         ensures fits { result.length ≤ length self.old.space.now }
     {

@@ -30,7 +30,8 @@ fn carry_out<C: WireCode, M: WritableMemory, R: Registering>(
     requires whole { IfOk (held (Ok request)) (Whole C.WireCode.which) }
     requires bounded { IfOk (held (Ok request)) (Bounded (M.means memory.old)) }
     requires passed { Passed (M.means memory.old) (said C.WireCode.which (Ok request)) }
-    ensures came { Came (answered C.WireCode.which reply.old.header (M.means memory.old) (R.lists registration.old) (said C.WireCode.which (Ok request.entry))) result reply.old.space.now reply.new.space.now (M.means memory.new) (R.lists registration.new) }
+    ensures came { let what = answered C.WireCode.which reply.old.header (M.means memory.old) (R.lists registration.old) (said C.WireCode.which (Ok request.entry)) in
+        Came what result reply.old.space.now reply.new.space.now (M.means memory.new) (R.lists registration.new) }
     ensures left { let what = answered C.WireCode.which reply.old.header (M.means memory.old) (R.lists registration.old) (said C.WireCode.which (Ok request.entry)) in
         Leads M.leaves memory.old what.writes memory.new }
     ensures good { R.good registration.old → R.good registration.new }
@@ -111,7 +112,8 @@ fn answer_request<C: WireCode, M: WritableMemory, R: Registering>(
     requires whole { IfOk (held request) (Whole C.WireCode.which) }
     requires bounded { IfOk (held request) (Bounded (M.means memory.old)) }
     requires passed { Passed (M.means memory.old) (said C.WireCode.which request) }
-    ensures came { Came (answered C.WireCode.which reply.old.header (M.means memory.old) (R.lists registration.old) (said C.WireCode.which request.entry)) result reply.old.space.now reply.new.space.now (M.means memory.new) (R.lists registration.new) }
+    ensures came { let what = answered C.WireCode.which reply.old.header (M.means memory.old) (R.lists registration.old) (said C.WireCode.which request.entry) in
+        Came what result reply.old.space.now reply.new.space.now (M.means memory.new) (R.lists registration.new) }
     ensures left { let what = answered C.WireCode.which reply.old.header (M.means memory.old) (R.lists registration.old) (said C.WireCode.which request.entry) in
         Leads M.leaves memory.old what.writes memory.new }
     ensures good { R.good registration.old → R.good registration.new }
@@ -134,8 +136,11 @@ fn answer_frame<C: WireCode, M: WritableMemory, R: Registering>(
     registration: &mut R,
 ) -> Answer
     requires { reply.old.header.data_at ≤ length frame.now }
-    ensures came { Came (answered C.WireCode.which reply.old.header (M.means memory.old) (R.lists registration.old) (request_in C.WireCode.which (M.means memory.old) settings.now.write_flag reply.old.header frame.now)) result reply.old.space.now reply.new.space.now (M.means memory.new) (R.lists registration.new) }
-    ensures left { let what = answered C.WireCode.which reply.old.header (M.means memory.old) (R.lists registration.old) (request_in C.WireCode.which (M.means memory.old) settings.now.write_flag reply.old.header frame.now) in
+    ensures came { let asked = request_in C.WireCode.which (M.means memory.old) settings.now.write_flag reply.old.header frame.now in
+        let what = answered C.WireCode.which reply.old.header (M.means memory.old) (R.lists registration.old) asked in
+        Came what result reply.old.space.now reply.new.space.now (M.means memory.new) (R.lists registration.new) }
+    ensures left { let asked = request_in C.WireCode.which (M.means memory.old) settings.now.write_flag reply.old.header frame.now in
+        let what = answered C.WireCode.which reply.old.header (M.means memory.old) (R.lists registration.old) asked in
         Leads M.leaves memory.old what.writes memory.new }
     ensures good { R.good registration.old → R.good registration.new }
     ensures declined { is_some result.fault ≡ true → registration.new ≡ registration.old }
@@ -154,7 +159,8 @@ fn serve<C: WireCode, M: WritableMemory, R: Registering>(
     settings: &Settings,
     registration: &mut R,
 ) -> Answer
-    ensures came { Came (served C.WireCode.which frame.now (length reply.old) (M.means memory.old) settings.now.write_flag (R.lists registration.old)) result reply.old reply.new (M.means memory.new) (R.lists registration.new) }
+    ensures came { let what = served C.WireCode.which frame.now (length reply.old) (M.means memory.old) settings.now.write_flag (R.lists registration.old) in
+        Came what result reply.old reply.new (M.means memory.new) (R.lists registration.new) }
     ensures left { let what = served C.WireCode.which frame.now (length reply.old) (M.means memory.old) settings.now.write_flag (R.lists registration.old) in
         Leads M.leaves memory.old what.writes memory.new }
     ensures good { R.good registration.old → R.good registration.new }
@@ -193,7 +199,8 @@ pub fn take_frame<M: WritableMemory, R: Registering>(
     settings: &Settings,
     registration: &mut R,
 ) -> Answer
-    ensures came { Came (served code frame.now (length reply.old) (M.means memory.old) settings.now.write_flag (R.lists registration.old)) result reply.old reply.new (M.means memory.new) (R.lists registration.new) }
+    ensures came { let what = served code frame.now (length reply.old) (M.means memory.old) settings.now.write_flag (R.lists registration.old) in
+        Came what result reply.old reply.new (M.means memory.new) (R.lists registration.new) }
     ensures left { let what = served code frame.now (length reply.old) (M.means memory.old) settings.now.write_flag (R.lists registration.old) in
         Leads M.leaves memory.old what.writes memory.new }
     ensures good { R.good registration.old → R.good registration.new }
@@ -202,7 +209,10 @@ pub fn take_frame<M: WritableMemory, R: Registering>(
     ensures reads { ReadsMoveNothing code frame.now (length reply.old) memory.old memory.new }
     ensures space { SpaceKept result reply.old reply.new }
     ensures alike { AlikeAnswer code frame.now (M.means memory.old) settings.now.write_flag (R.lists registration.old) result reply.old reply.new (M.means memory.new) (R.lists registration.new) }
-    ensures carries { (b : Option Bool) → CarriesOn (state (M.means memory.old) settings.now.write_flag b (R.lists registration.old)) (taking code frame.now reply.old) (taken result.taken result.length result.fault reply.new) (state (M.means memory.new) settings.now.write_flag b (R.lists registration.new)) }
+    ensures carries { let before = λ (b : Option Bool). state (M.means memory.old) settings.now.write_flag b (R.lists registration.old) in
+        let behind = λ (b : Option Bool). state (M.means memory.new) settings.now.write_flag b (R.lists registration.new) in
+        let outcome = taken result.taken result.length result.fault reply.new in
+        (b : Option Bool) → CarriesOn (before b) (taking code frame.now reply.old) outcome (behind b) }
 {
     match code {
         Code::Binary => serve::<Binary, M, R>(frame, reply, memory, settings, registration),

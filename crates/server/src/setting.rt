@@ -33,7 +33,8 @@ pub fn set_point<M: WritableMemory>(
     ensures answer { result ≡ write_answer (M.means memory.old) device number value }
     ensures meaning { M.means memory.new ≡ after_write result (M.means memory.old) device number value }
     ensures left { LeftBy M.leaves result memory.old device number value memory.new }
-    ensures carries { (flag : Bool) (b : Option Bool) (g : Option Listed) → CarriesOn (state (M.means memory.old) flag b g) (setting device number value) (written result) (state (M.means memory.new) flag b g) }
+    ensures carries { (flag : Bool) (b : Option Bool) (g : Option Listed) →
+        CarriesOn (state (M.means memory.old) flag b g) (setting device number value) (written result) (state (M.means memory.new) flag b g) }
 {
     give(memory, device, number, value)
 }

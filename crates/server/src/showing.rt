@@ -79,7 +79,8 @@ pub(crate) fn write_kept<C: WireCode, M: ReadableMemory, R: Registering>(
 ) -> usize
     requires { (count ≤ 192) × (from + count ≤ length (all_of (R.lists registration.now))) × (from < 2 ^ 32) × (at + count * (bytes_of width * per_byte C.WireCode.which) ≤ length out.old) }
     ensures end { result ≡ at + count * (bytes_of width * per_byte C.WireCode.which) }
-    ensures written { out.new ≡ sets out.old at (values_bytes C.WireCode.which (bytes_of width) (values_of width (M.means memory.now).value (take count (drop from (all_of (R.lists registration.now)))))) }
+    ensures written { let values = values_of width (M.means memory.now).value (take count (drop from (all_of (R.lists registration.now)))) in
+        out.new ≡ sets out.old at (values_bytes C.WireCode.which (bytes_of width) values) }
 {
     let mut place = at;
     // By index, since a registration is asked for one access at a time: there is no list to go over.
@@ -103,7 +104,8 @@ pub(crate) fn write_listed<C: WireCode, M: ReadableMemory>(
 ) -> usize
     requires { (count ≤ 192) × (at + count * (bytes_of width * per_byte C.WireCode.which) ≤ length out.old) }
     ensures end { result ≡ at + length (list_in (access_in C.WireCode.which) count (drop from list.now)) * (bytes_of width * per_byte C.WireCode.which) }
-    ensures written { out.new ≡ sets out.old at (values_bytes C.WireCode.which (bytes_of width) (values_of width (M.means memory.now).value (list_in (access_in C.WireCode.which) count (drop from list.now)))) }
+    ensures written { let values = values_of width (M.means memory.now).value (list_in (access_in C.WireCode.which) count (drop from list.now)) in
+        out.new ≡ sets out.old at (values_bytes C.WireCode.which (bytes_of width) values) }
 {
     let mut place = at;
     let mut next = from;

@@ -159,7 +159,10 @@ pub(crate) fn put_random<C: WireCode, M: WritableMemory>(
     doubles: usize,
 )
     requires { words ≤ 256 }
-    ensures leads { Leads (Tries M.means M.leaves) memory.old (each as_word (list_in (setting_in C.WireCode.which 2) words list.now) ++ each as_double (list_in (setting_in C.WireCode.which 4) doubles (drop (words * (6 * per_byte C.WireCode.which)) list.now))) memory.new }
+    ensures leads { let behind = drop (words * (6 * per_byte C.WireCode.which)) list.now in
+        let of_words = each as_word (list_in (setting_in C.WireCode.which 2) words list.now) in
+        let of_doubles = each as_double (list_in (setting_in C.WireCode.which 4) doubles behind) in
+        Leads (Tries M.means M.leaves) memory.old (of_words ++ of_doubles) memory.new }
     ensures words { Each (λ s. s.1 < 256 ^ 2) (list_in (setting_in C.WireCode.which 2) words list.now) }
     ensures doubles { Each (λ s. s.1 < 256 ^ 4) (list_in (setting_in C.WireCode.which 4) doubles (drop (words * (6 * per_byte C.WireCode.which)) list.now)) }
 {
