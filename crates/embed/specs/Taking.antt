@@ -1,5 +1,5 @@
 -- What taking a frame answers and leaves of all that the caller lends.
-use Rattle.std.specs.Prelude.{◌≡◌, ℕ, ◌≤◌, Bool, true, false, List, length, Some, None, Ok, Err, Option, Result}
+use Rattle.std.specs.Prelude.{◌≡◌, ℕ, ◌≤◌, Bool, true, false, List, length, Some, None, is_some, Ok, Err, Option, Result}
 use Rattle.std.proofs.lemmas.List.Edits.{sets}
 use Rattle.wire.specs.declared.code.Code.{Code}
 use Rattle.memory.specs.declared.layout.Form.{Form}
@@ -28,8 +28,8 @@ abbrev pub refusal : ℕ → BenchAnswer
 refusal s = record { taken = 0; length = 0; place = 0; fault = 0; status = s }
 
 -- an answer, the reply space and the registration tell what taking the frame at the front of xs came to: what was taken lies within xs, the reply within
--- its space, and the next call finds the registration good
-pub record Told (xs : List ℕ) (s : Served) (a : BenchAnswer) (before after : List ℕ) (k : BenchRegistration) : Type 0 where
+-- its space; a fault leaves the registration what it was, and the next call finds it good
+pub record Told (xs : List ℕ) (s : Served) (a : BenchAnswer) (before after : List ℕ) (k k' : BenchRegistration) : Type 0 where
   pub done : a.status ≡ 0
   pub takes : a.taken ≡ s.taken
   pub long : a.length ≡ length s.bytes
@@ -37,12 +37,13 @@ pub record Told (xs : List ℕ) (s : Served) (a : BenchAnswer) (before after : L
   pub place : a.place ≡ fault_place s.fault_met
   pub within : (a.taken ≤ length xs) × (a.length ≤ length before)
   pub reply : after ≡ sets before 0 s.bytes
-  pub lists : kept_list k ≡ s.registered
-  pub listing : is_listing k ≡ true
+  pub lists : kept_list k' ≡ s.registered
+  pub declined : is_some s.fault_met ≡ true → k' ≡ k
+  pub listing : is_listing k' ≡ true
 
 -- taking a frame over any memory: what it tells, and what it leaves of the memory and of its meaning
 pub record Serves {S : Type 0} (meaning : S → Meaning) (leaves : Leaving S) (c : Code) (xs : List ℕ) (flag : Bool) (m : S) (reply : List ℕ) (k : BenchRegistration) (a : BenchAnswer) (m' : S) (reply' : List ℕ) (k' : BenchRegistration) : Type 0 where
-  pub told : Told xs (served c xs (length reply) (meaning m) flag (kept_list k)) a reply reply' k'
+  pub told : Told xs (served c xs (length reply) (meaning m) flag (kept_list k)) a reply reply' k k'
   pub means : meaning m' ≡ (served c xs (length reply) (meaning m) flag (kept_list k)).meaning
   pub left : Leads leaves m (served c xs (length reply) (meaning m) flag (kept_list k)).writes m'
 
@@ -58,15 +59,15 @@ abbrev pub served_in : Form → Code → List ℕ → Bool → List ℕ → List
 served_in f c xs flag es reply us k = served c xs (length reply) (stored f us es) flag (kept_list k)
 
 -- a frame that was taken: it is told, the units are exactly what its writes make of them, and whatever of them holds no point is kept
-pub record Taken (f : Form) (es xs : List ℕ) (s : Served) (a : BenchAnswer) (reply us reply' us' : List ℕ) (k' : BenchRegistration) : Type 0 where
-  pub told : Told xs s a reply reply' k'
+pub record Taken (f : Form) (es xs : List ℕ) (s : Served) (a : BenchAnswer) (reply us reply' us' : List ℕ) (k k' : BenchRegistration) : Type 0 where
+  pub told : Told xs s a reply reply' k k'
   pub units : us' ≡ units_put f es us s.writes
   pub kept : Kept f es us us'
   pub means : stored f us' es ≡ s.meaning
 
 -- a call whose other arguments are good: by whether the registration can be listed
 abbrev pub TakenBy : Bool → Form → Code → List ℕ → Bool → List ℕ → BenchAnswer → List ℕ → List ℕ → BenchRegistration → List ℕ → List ℕ → BenchRegistration → Type 0
-TakenBy true f c xs flag es a reply us k reply' us' k' = Taken f es xs (served_in f c xs flag es reply us k) a reply us reply' us' k'
+TakenBy true f c xs flag es a reply us k reply' us' k' = Taken f es xs (served_in f c xs flag es reply us k) a reply us reply' us' k k'
 TakenBy false f c xs flag es a reply us k reply' us' k' = Refused 104 a reply us k reply' us' k'
 
 -- a call

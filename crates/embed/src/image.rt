@@ -90,7 +90,7 @@ fn take_over(
     requires { is_listing registration.old ≡ true }
     ensures name { image.new.units.ghost_name ≡ image.old.units.ghost_name }
     ensures taken { let s = served_in Image code frame.now write_flag image.old.extents reply.old image.old.units.now registration.old in
-        Taken Image image.old.extents frame.now s result reply.old image.old.units.now reply.new image.new.units.now registration.new }
+        Taken Image image.old.extents frame.now s result reply.old image.old.units.now reply.new image.new.units.now registration.old registration.new }
 {
     take(image, code, frame, reply, write_flag, registration)
 }

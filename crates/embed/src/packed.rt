@@ -90,7 +90,7 @@ fn take_over(
     requires { is_listing registration.old ≡ true }
     ensures name { tables.new.units.ghost_name ≡ tables.old.units.ghost_name }
     ensures taken { let s = served_in Packed code frame.now write_flag tables.old.extents reply.old tables.old.units.now registration.old in
-        Taken Packed tables.old.extents frame.now s result reply.old tables.old.units.now reply.new tables.new.units.now registration.new }
+        Taken Packed tables.old.extents frame.now s result reply.old tables.old.units.now reply.new tables.new.units.now registration.old registration.new }
 {
     take(tables, code, frame, reply, write_flag, registration)
 }
