@@ -1,2 +1,3 @@
 pub mod Heads
 pub mod Written
+pub mod Exact

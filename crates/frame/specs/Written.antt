@@ -64,6 +64,15 @@ header_of code f c s n = record {
   size = lead_bytes f.form * per_byte code + (6 * per_byte code + n);
 }
 
+-- a frame that is written by the forms, with any data and with anything behind it, and this header
+pub record IsWritten (code : Code) (xs : List ℕ) (h : Header) : Type 0 where
+  pub front : Front
+  pub fits : FrontFits front
+  pub ys : List ℕ
+  pub rest : List ℕ
+  pub is : xs ≡ request_bytes code front h.command h.subcommand ys ++ rest
+  pub head : h ≡ header_of code front h.command h.subcommand (length ys)
+
 -- a frame that is written by the forms is taken up, and its header says what was written, whatever follows it
 pub record TakenUp (code : Code) (space : ℕ) (xs : List ℕ) (r : Result Header Fault) : Type 0 where
   pub back : (f : Front) (c s : ℕ) (ys rest : List ℕ) → FrontFits f → c < 65536 → s < 65536 → 6 * per_byte code + length ys ≤ 8192 → 4096 ≤ space

@@ -19,7 +19,8 @@ use Rattle.request.proofs.Passed.{SettingOk, BitSettingOk, Passes, judge_passed,
 pub tests_passed : (m : Meaning) (a b : Asked) → verdict m a ≡ Ok b → Passes (tests m a)
 tests_passed m a b e = judge_passed (tests m a) a b e
 
-range : (low n high : ℕ) → (leb low n && leb n high) ≡ true → (low ≤ n) × (n ≤ high)
+-- a number that lies between two
+pub range : (low n high : ℕ) → (leb low n && leb n high) ≡ true → (low ≤ n) × (n ≤ high)
 range low n high h =
     let p = and_parts (leb low n) (leb n high) h in
     (leb-true low n p.0, leb-true n high p.1)

@@ -38,13 +38,13 @@ tested : {A : Type 0} (b : Bool) (x : Result A Fault) (e : Fault) (r : Result A 
 tested true x e r h = h
 tested false x e r h = refl
 
-ended : (bytes : List ℕ) (at : ℕ) → Stands bytes [] at → length bytes ≤ at
-ended bytes at s = omega (arith, sym (length-drop at bytes) ∙ ap length s.here)
+at_its_end : (bytes : List ℕ) (at : ℕ) → Stands bytes [] at → length bytes ≤ at
+at_its_end bytes at s = omega (arith, sym (length-drop at bytes) ∙ ap length s.here)
 
 -- one case for each kind of field, and none for a code
 pub comes_to : {A : Type 0} (code : Code) (bytes : List ℕ) {w : Walk A} {fs : List Field} {ts : List Test} {a : A} → Says w fs ts a
     → (dv fd at : ℕ) → Stands bytes (write code fs) at → forget (run code bytes w dv fd at) ≡ judge ts a
-comes_to code bytes says_done dv fd at s = rw (le-leb (length bytes) at (ended bytes at s))
+comes_to code bytes says_done dv fd at s = rw (le-leb (length bytes) at (at_its_end bytes at s))
 comes_to code bytes (says_number {size = size} {v = v} {fs = fs} h t) dv fd at s =
     rw (number_back code bytes (write code fs) at size v h s)
     (comes_to code bytes t dv at (at + size * per_byte code) (on bytes (encode code size v) (write code fs) at (size * per_byte code) (length_encode code size v) s))

@@ -14,11 +14,18 @@ use Rattle.request.specs.Requests.{Asked, random_read, register, random_bits, ra
 use Rattle.request.specs.Judging.{access, setting, bit_setting, judged}
 use Rattle.request.specs.Requests.{Register as Registering}
 use Rattle.request.specs.Entries.{access_at, access_in, setting_at, setting_in, bit_setting_at}
-use Rattle.request.specs.Readings.{Held, held_random_read, held_register, held_random_write, asked, asked_of, Whole}
-use Rattle.request.specs.Lists.{two_lists, random_list, write_list, bits_list, holding, holding_bits}
+use Rattle.request.specs.Readings.{held_random_bits, Held, held_random_read, held_register, held_random_write, asked, asked_of, Whole}
+use Rattle.request.specs.Lists.{two_lists, random_list, write_list, bits_list}
 use Rattle.request.proofs.Lists.{Entry, walked, free_list, end_is}
 use Rattle.request.proofs.Turns.{all_there}
 use Rattle.request.proofs.Parts.{access_law, setting_law, bit_setting_law}
+
+-- what is held of the frame from where the lists begin
+abbrev pub holding : (ℕ → ℕ → List ℕ → ℕ → Held) → List ℕ → Result (ℕ × ℕ × ℕ) Fault → Result Held Fault
+holding make bytes r = then r (λ a. Ok (make a.0 a.1 (drop a.2 bytes) a.2))
+
+abbrev pub holding_bits : List ℕ → Result (ℕ × ℕ) Fault → Result Held Fault
+holding_bits bytes r = then r (λ a. Ok (held_random_bits a.0 (drop a.1 bytes) a.1))
 
 -- what is held as such asks what it does, and has all of its entries
 pub as_held : (code : Code) {x : Result Held Fault} {y : Result Asked Fault} → asked code x ≡ y → IfOk x (Whole code) → (r : Result Held Fault) → r ≡ x → (asked code r ≡ y) × IfOk r (Whole code)
@@ -74,14 +81,14 @@ module _ {X : Type 0} (code : Code) (bytes : List ℕ) (e₁ e₂ : (X → Walk 
     two_whole : (at : ℕ) (ok : ℕ → ℕ → Bool) → IfOk (holding hold bytes (two_lists code bytes at ok r₁ r₂)) P
     two_whole at ok = counted (counts_at code bytes at)
       where
-        ended : (w d p f : ℕ) (b : Bool) → P (hold w d (drop p bytes) p) → IfOk (holding hold bytes (cond b (Ok (w, d, p)) (Err (fault BadSize f)))) P
-        ended w d p f true h = h
-        ended w d p f false h = tt
+        at_its_end : (w d p f : ℕ) (b : Bool) → P (hold w d (drop p bytes) p) → IfOk (holding hold bytes (cond b (Ok (w, d, p)) (Err (fault BadSize f)))) P
+        at_its_end w d p f true h = h
+        at_its_end w d p f false h = tt
 
         second : (w d p e : ℕ) → list_end r₁ w p ≡ Ok e → (z : Result ℕ Fault) → list_end r₂ d e ≡ z → IfOk (holding hold bytes (then z (λ f. ends bytes f (w, d, p)))) P
         second w d p e i (Ok f) j =
             let here : drop (w * size₁) (drop p bytes) ≡ drop e bytes = drop-drop (w * size₁) p bytes ∙ ap (λ k. drop k bytes) (sym (end_is code bytes e₁ r₁ q₁ size₁ law₁ w p e i)) in
-            ended w d p f (leb (length bytes) f)
+            at_its_end w d p f (leb (length bytes) f)
             (makes w d (drop p bytes) p (all_there bytes r₁ q₁ law₁.reads w p e i, ap (λ xs. length (list_in q₂ d xs)) here ∙ all_there bytes r₂ q₂ law₂.reads d e f j))
         second w d p e i (Err f) j = tt
 
@@ -139,19 +146,19 @@ module _ (code : Code) (m : Meaning) (bytes : List ℕ) (at : ℕ) where
   pub bits_judged : asked code (holding_bits bytes (bits_list code m bytes at)) ≡ judged code m RandomBits bytes at
   bits_judged = counted (number_at code bytes at 1)
     where
-      ended : (n : ℕ × ℕ) (y : Result ℕ Fault) → asked code (holding_bits bytes (listed n y)) ≡ then y (λ e. run code bytes (done (random_bits (list_in (setting_in code 1) n.0 (drop (at + n.1) bytes)))) at at e)
-      ended n (Ok e) = end (leb (length bytes) e)
+      at_its_end : (n : ℕ × ℕ) (y : Result ℕ Fault) → asked code (holding_bits bytes (listed n y)) ≡ then y (λ e. run code bytes (done (random_bits (list_in (setting_in code 1) n.0 (drop (at + n.1) bytes)))) at at e)
+      at_its_end n (Ok e) = end (leb (length bytes) e)
         where
           end : (b : Bool) → asked code (holding_bits bytes (cond b (Ok (n.0, at + n.1)) (Err (fault BadSize e)))) ≡ cond b (Ok (random_bits (list_in (setting_in code 1) n.0 (drop (at + n.1) bytes)))) (Err (fault BadSize e))
           end true = refl
           end false = refl
-      ended n (Err f) = refl
+      at_its_end n (Err f) = refl
 
       tested : (n : ℕ × ℕ) (b : Bool)
           → asked code (holding_bits bytes (cond b (listed n (list_end (bit_setting_at code m bytes) n.0 (at + n.1))) (Err (fault RandomBitCount at))))
           ≡ cond b (run code bytes (list (bit_setting m) n.0 (λ vs. done (random_bits vs))) at at (at + n.1)) (Err (fault RandomBitCount at))
       tested n true =
-          ended n (list_end (bit_setting_at code m bytes) n.0 (at + n.1))
+          at_its_end n (list_end (bit_setting_at code m bytes) n.0 (at + n.1))
           ∙ sym (walked code bytes (bit_setting m) (bit_setting_at code m bytes) (setting_in code 1) (5 * per_byte code) (bit_setting_law code m bytes) n.0 (λ vs. done (random_bits vs)) (λ _ _ _ _ _ _. refl) at at at at (at + n.1))
       tested n false = refl
 
@@ -167,14 +174,14 @@ module _ (code : Code) (m : Meaning) (bytes : List ℕ) (at : ℕ) where
       end n f true h = h
       end n f false h = tt
 
-      ended : (n : ℕ × ℕ) (y : Result ℕ Fault) → list_end (bit_setting_at code m bytes) n.0 (at + n.1) ≡ y → IfOk (holding_bits bytes (listed n y)) (Whole code)
-      ended n (Ok f) i =
+      at_its_end : (n : ℕ × ℕ) (y : Result ℕ Fault) → list_end (bit_setting_at code m bytes) n.0 (at + n.1) ≡ y → IfOk (holding_bits bytes (listed n y)) (Whole code)
+      at_its_end n (Ok f) i =
           let law : Entry {A = Asked} code bytes (bit_setting m) (bit_setting_at code m bytes) (setting_in code 1) (5 * per_byte code) = bit_setting_law code m bytes in
           end n f (leb (length bytes) f) (all_there bytes (bit_setting_at code m bytes) (setting_in code 1) law.reads n.0 (at + n.1) f i)
-      ended n (Err f) i = tt
+      at_its_end n (Err f) i = tt
 
       tested : (n : ℕ × ℕ) (b : Bool) → IfOk (holding_bits bytes (cond b (listed n (list_end (bit_setting_at code m bytes) n.0 (at + n.1))) (Err (fault RandomBitCount at)))) (Whole code)
-      tested n true = ended n (list_end (bit_setting_at code m bytes) n.0 (at + n.1)) refl
+      tested n true = at_its_end n (list_end (bit_setting_at code m bytes) n.0 (at + n.1)) refl
       tested n false = tt
 
       counted : (x : Result (ℕ × ℕ) Fault) → IfOk (holding_bits bytes (counts_bits x)) (Whole code)

@@ -6,5 +6,7 @@ pub mod Passed
 pub mod Halves
 pub mod Written
 pub mod Alike
+pub mod Exact
+pub mod Walked
 pub mod Past
 pub mod Accepted

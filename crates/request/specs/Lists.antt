@@ -1,5 +1,5 @@
--- How the requests with lists are read: the counts, then each entry, to the end of the frame; and what is then held.
-use Rattle.std.specs.Prelude.{ℕ, ◌+◌, Bool, cond, List, drop, Ok, Err, Result}
+-- How the requests with lists are read: the counts, then each entry, to the end of the frame.
+use Rattle.std.specs.Prelude.{ℕ, ◌+◌, Bool, cond, List, Err, Result}
 use Rattle.memory.specs.Meaning.{Meaning}
 use Rattle.wire.specs.declared.code.Code.{Code}
 use Rattle.wire.specs.Numbers.{then}
@@ -9,7 +9,6 @@ use Rattle.frame.specs.Faults.{fault}
 use Rattle.request.specs.Fields.{number_at, counts_at, list_end, ends}
 use Rattle.request.specs.Limits.{random_ok, random_bits_ok, random_write_ok}
 use Rattle.request.specs.Entries.{access_at, setting_at, bit_setting_at}
-use Rattle.request.specs.Readings.{Held, held_random_bits}
 
 -- two counts that pass a test, and two lists behind them to the end of the frame: the counts, and where the lists begin
 abbrev pub two_lists : {X : Type 0} → Code → List ℕ → ℕ → (ℕ → ℕ → Bool) → (ℕ → Result (X × ℕ) Fault) → (ℕ → Result (X × ℕ) Fault) → Result (ℕ × ℕ × ℕ) Fault
@@ -34,10 +33,3 @@ bits_list code m bytes at =
     cond (random_bits_ok n.0)
     (then (list_end (bit_setting_at code m bytes) n.0 (at + n.1)) (λ e. ends bytes e (n.0, at + n.1)))
     (Err (fault RandomBitCount at)))
-
--- what is held of the frame from where the lists begin
-abbrev pub holding : (ℕ → ℕ → List ℕ → ℕ → Held) → List ℕ → Result (ℕ × ℕ × ℕ) Fault → Result Held Fault
-holding make bytes r = then r (λ a. Ok (make a.0 a.1 (drop a.2 bytes) a.2))
-
-abbrev pub holding_bits : List ℕ → Result (ℕ × ℕ) Fault → Result Held Fault
-holding_bits bytes r = then r (λ a. Ok (held_random_bits a.0 (drop a.1 bytes) a.1))

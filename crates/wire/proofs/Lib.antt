@@ -1,6 +1,7 @@
 pub mod Places
 pub mod Numbers
 pub mod RoundTrip
+pub mod Exact
 pub mod Lengths
 pub mod Tables
 pub mod Turns

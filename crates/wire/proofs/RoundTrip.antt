@@ -13,7 +13,7 @@ use Rattle.wire.specs.declared.code.Code.{Code}
 use Rattle.wire.specs.declared.code.Code.TheVariants.{Binary, Ascii}
 use Rattle.wire.specs.declared.code.FieldFault.{FieldFault}
 use Rattle.wire.specs.declared.code.FieldFault.TheVariants.{Missing, Unknown}
-use Rattle.wire.specs.Numbers.{then, per_byte, low_first, low_bytes, base, digits_run, digit_chars, value_of, number_in, encode}
+use Rattle.wire.specs.Numbers.{then, per_byte, low_first, low_bytes, base, digits_run, digit_chars, value_sent, number_in, encode}
 use Rattle.wire.specs.Fields.{device_named, device_number, device_in, encode_device, number_limit}
 use Rattle.wire.proofs.Numbers.{base_pos, digit_back, two_a_byte, high_digit}
 use Rattle.wire.proofs.Places.{drop_sets}
@@ -38,7 +38,7 @@ digits_back t (suc n) place acc v rest =
 digits_whole : (t : Notation) (n place v : ℕ) (rest : List ℕ) → v < base t ^ n → digits_run t n place 0 (digit_chars t n v ++ rest) ≡ Ok v
 digits_whole t n place v rest h = digits_back t n place 0 v rest ∙ ap Ok (omega (arith, mod-eq_of_lt h))
 
-value_back : (code : Code) (size v : ℕ) (rest : List ℕ) → v < 256 ^ size → value_of code size (encode code size v ++ rest) ≡ Ok v
+value_back : (code : Code) (size v : ℕ) (rest : List ℕ) → v < 256 ^ size → value_sent code size (encode code size v ++ rest) ≡ Ok v
 value_back Binary size v rest h = ap Ok (low_back size v rest h)
 value_back Ascii size v rest h = digits_whole Hexadecimal (size * 2) 0 v rest (rw (two_a_byte size) h)
 
@@ -124,7 +124,7 @@ number_takes true (Err f) n a e = cc
 number_takes false r n a e = cc
 
 pub number_used : (code : Code) (size : ℕ) (xs : List ℕ) (a : ℕ × ℕ) → number_in code size xs ≡ Ok a → a.1 ≡ size * per_byte code
-number_used code size xs a e = number_takes (leb (size * per_byte code) (length xs)) (value_of code size xs) (size * per_byte code) a e
+number_used code size xs a e = number_takes (leb (size * per_byte code) (length xs)) (value_sent code size xs) (size * per_byte code) a e
 
 -- a device field takes four bytes
 device_takes : (b : Bool) (r : Result Device FieldFault) (n : Device → Result ℕ FieldFault) (u : ℕ) (a : Device × ℕ × ℕ)

@@ -1,5 +1,5 @@
 -- Numbers on the wire, in two codes.
-use Rattle.std.specs.Prelude.{ℕ, zero, suc, ◌+◌, ◌-◌, ◌*◌, ◌/◌, ◌%◌, ◌^◌, cond, ◌&&◌, List, [], ◌∷◌, length, Some, None, Ok, Err, Option, Result, nat_le}
+use Rattle.std.specs.Prelude.{ℕ, zero, suc, ◌+◌, ◌-◌, ◌*◌, ◌/◌, ◌%◌, ◌^◌, ◌<◌, cond, ◌&&◌, List, [], ◌∷◌, length, Some, None, Ok, Err, Option, Result, nat_le, slice_index}
 use Rattle.device.specs.declared.types.Notation.{Notation}
 use Rattle.device.specs.declared.types.Notation.TheVariants.{Decimal, Hexadecimal}
 use Rattle.wire.specs.declared.code.Code.{Code}
@@ -16,6 +16,10 @@ then (Err e) f = Err e
 abbrev pub per_byte : Code → ℕ
 per_byte Binary = 1
 per_byte Ascii = 2
+
+-- every byte is below 256
+abbrev pub AllBytes : List ℕ → Type 0
+AllBytes xs = (i : ℕ) → slice_index xs i < 256
 
 -- the number in the first n bytes, low byte first
 abbrev pub low_first : ℕ → List ℕ → ℕ
@@ -44,15 +48,15 @@ digits_run notation (suc n) place acc [] = Err Missing
 digits_run notation (suc n) place acc (c ∷ cs) = then (digit_of notation place c) (λ d. digits_run notation n (place + 1) (acc * base notation + d) cs)
 
 -- the value of a number of `size` bytes that is all there
-abbrev pub value_of : Code → ℕ → List ℕ → Result ℕ FieldFault
-value_of Binary size xs = Ok (low_first size xs)
-value_of Ascii size xs = digits_run Hexadecimal (size * 2) 0 0 xs
+abbrev pub value_sent : Code → ℕ → List ℕ → Result ℕ FieldFault
+value_sent Binary size xs = Ok (low_first size xs)
+value_sent Ascii size xs = digits_run Hexadecimal (size * 2) 0 0 xs
 
 -- the number of `size` bytes at the front, and the wire bytes that it takes; a bad digit's place counts from the front
 abbrev pub number_in : Code → ℕ → List ℕ → Result (ℕ × ℕ) FieldFault
 number_in code size xs =
     cond (nat_le (size * per_byte code) (length xs))
-    (then (value_of code size xs) (λ v. Ok (v, size * per_byte code)))
+    (then (value_sent code size xs) (λ v. Ok (v, size * per_byte code)))
     (Err Missing)
 
 -- the n lowest bytes of a number, low byte first

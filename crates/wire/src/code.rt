@@ -2,7 +2,7 @@
 ghost use Rattle.std.specs.Prelude.{◌≡◌, ℕ, ◌+◌, ◌*◌, ◌^◌, ◌<◌, ◌≤◌, [], ◌∷◌, length, drop, IfOk, Ok};
 ghost use Rattle.std.proofs.lemmas.List.Edits.{sets};
 ghost use Rattle.wire.specs.declared.code.Code.{Code};
-ghost use Rattle.wire.specs.Numbers.{per_byte, value_of, number_in, encode};
+ghost use Rattle.wire.specs.Numbers.{per_byte, value_sent, number_in, encode};
 ghost use Rattle.wire.specs.Points.{bits_bytes, bits_size, half_in, filled};
 ghost use Rattle.wire.specs.Fields.{device_named, device_number, device_in, encode_device, number_limit};
 
@@ -49,7 +49,7 @@ pub trait WireCode {
     // The value of a number of `size` bytes that is all there.
     fn read_value(bytes: &[u8], size: usize) -> Result<u32, FieldFault>
         requires { (size ≤ 4) × (size * per_byte which ≤ length bytes.now) }
-        ensures value { result ≡ value_of which size bytes.now }
+        ensures value { result ≡ value_sent which size bytes.now }
         ensures below { IfOk result (λ v. v < 256 ^ size) };
 
     // A number of `size` bytes.
