@@ -1,6 +1,6 @@
 // The lists of accesses that a request carries, in plain words.
 use crate::coded::Coded;
-use crate::reading::{Reading, plural, tell_comma, tell_more, tell_unread, told};
+use crate::reading::{Reading, first_few, plural, tell_comma, tell_more, tell_unread};
 use crate::width::Width;
 use crate::words::Point;
 use device::{Device, Kind};
@@ -158,7 +158,7 @@ impl Listed<'_> {
             return print!(rt; "nothing");
         }
         // The index says what an access reaches, and its field stands where the one before ends: a chain would have to carry both.
-        for i in 0..told(list.total()) {
+        for i in 0..first_few(list.total()) {
             let Some(access) = Access::read(self.frame, at, list.width(i)) else {
                 return tell_unread(rt, i);
             };

@@ -81,7 +81,7 @@ pub fn tell_comma(rt: &HostRuntime, index: u32) -> io::Result<()> {
 }
 
 // How many of the values of a row or a list are told: the first 32 at most.
-pub fn told(count: u32) -> u32
+pub fn first_few(count: u32) -> u32
     ensures { result ≡ cond (nat_le count 32) count 32 }
 {
     count.min(32)
@@ -89,7 +89,7 @@ pub fn told(count: u32) -> u32
 
 // Tells how many values were not told.
 pub fn tell_more(rt: &HostRuntime, count: u32) -> io::Result<()> {
-    let more = count - told(count);
+    let more = count - first_few(count);
     if more > 0 {
         return print!(rt; ", and {more} more");
     }

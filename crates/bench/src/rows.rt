@@ -2,7 +2,7 @@
 ghost use Rattle.std.specs.Prelude.{◌^◌, ◌<◌, ◌≤◌};
 
 use crate::coded::Coded;
-use crate::reading::{Reading, plural, tell_comma, tell_more, tell_unread, told};
+use crate::reading::{Reading, first_few, plural, tell_comma, tell_more, tell_unread};
 use crate::width::Width;
 use crate::words::Point;
 use device::{Device, Kind};
@@ -79,7 +79,7 @@ pub fn tell_row(rt: &HostRuntime, row: Row, data: Coded<'_>) -> io::Result<()> {
     }
     let mut at = 0;
     // The index gives the point, and a field stands where the one before ends: a chain would have to carry both.
-    for i in 0..told(u32::from(row.count)) {
+    for i in 0..first_few(u32::from(row.count)) {
         let Some((value, next)) = row.value(data, i, at) else {
             return tell_unread(rt, i);
         };

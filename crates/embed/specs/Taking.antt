@@ -43,7 +43,7 @@ pub record Told (xs : List ℕ) (s : Served) (a : BenchAnswer) (before after : L
 
 -- taking a frame over any memory: what it tells, and what it leaves of the memory and of its meaning
 pub record Serves {S : Type 0} (meaning : S → Meaning) (leaves : Leaving S) (c : Code) (xs : List ℕ) (flag : Bool) (m : S) (reply : List ℕ) (k : BenchRegistration) (a : BenchAnswer) (m' : S) (reply' : List ℕ) (k' : BenchRegistration) : Type 0 where
-  pub told : Told xs (served c xs (length reply) (meaning m) flag (kept_list k)) a reply reply' k k'
+  pub tells : Told xs (served c xs (length reply) (meaning m) flag (kept_list k)) a reply reply' k k'
   pub means : meaning m' ≡ (served c xs (length reply) (meaning m) flag (kept_list k)).meaning
   pub left : Leads leaves m (served c xs (length reply) (meaning m) flag (kept_list k)).writes m'
 
@@ -60,7 +60,7 @@ served_in f c xs flag es reply us k = served c xs (length reply) (stored f us es
 
 -- a frame that was taken: it is told, the units are exactly what its writes make of them, and whatever of them holds no point is kept
 pub record Taken (f : Form) (es xs : List ℕ) (s : Served) (a : BenchAnswer) (reply us reply' us' : List ℕ) (k k' : BenchRegistration) : Type 0 where
-  pub told : Told xs s a reply reply' k k'
+  pub tells : Told xs s a reply reply' k k'
   pub units : us' ≡ units_put f es us s.writes
   pub kept : Kept f es us us'
   pub means : stored f us' es ≡ s.meaning

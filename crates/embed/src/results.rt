@@ -87,7 +87,7 @@ impl BenchAnswer {
     }
 
     // What taking a frame came to.
-    pub(crate) fn told(answer: Answer) -> BenchAnswer
+    pub(crate) fn of(answer: Answer) -> BenchAnswer
         ensures { result ≡ record { taken = answer.taken; length = answer.length; place = fault_place answer.fault; fault = fault_number answer.fault; status = 0 } }
     {
         let (fault, place) = number_and_place(answer.fault);

@@ -22,5 +22,5 @@ pub(crate) fn take<M: WritableMemory>(
     ensures { Serves M.means M.leaves code frame.now write_flag memory.old reply.old kept.old result memory.new reply.new kept.new }
 {
     let settings = Settings { write_flag };
-    BenchAnswer::told(take_frame(code, frame, reply, memory, &settings, kept))
+    BenchAnswer::of(take_frame(code, frame, reply, memory, &settings, kept))
 }

@@ -3,7 +3,7 @@ use Rattle.std.specs.Prelude.{ℕ, Bool, true, false, ◌&&◌, List, [], ◌∷
 use Rattle.device.specs.declared.types.Device.TheVariants.{D}
 use Rattle.wire.specs.declared.code.Code.TheVariants.{Binary}
 use Rattle.frame.specs.Faults.{number_of}
-use Rattle.server.specs.Histories.{State, state}
+use Rattle.server.specs.Histories.{State, no_window}
 use Rattle.sheet.specs.declared.run.Reason.{Reason}
 use Rattle.sheet.specs.declared.run.Reason.TheVariants.{Finished, Cancelled, Stopped}
 use Rattle.sheet.specs.declared.run.RunEnd.{RunEnd}
@@ -11,7 +11,12 @@ use Rattle.sheet.specs.Runs.{sheet_run}
 
 -- a server over 16 points a device, all 0 and open, with writing off and nothing registered
 abbrev resting : State
-resting = state (record { extent = λ d. 16; value = λ d n. 0; opened = λ d n. true }) false None None
+resting = record {
+  meaning = record { extent = λ d. 16; value = λ d n. 0; opened = λ d n. true };
+  flag = false;
+  registered = None;
+  aside = no_window;
+}
 
 -- how a run of a sheet ends, with this cancel number and a reply space of 4,096 bytes
 abbrev ran : ℕ → List ℕ → RunEnd

@@ -8,17 +8,17 @@ use Rattle.frame.specs.Faults.{number_of}
 use Rattle.server.specs.Serves.{Served, served}
 
 -- the value of a point where these points hold these values, and 0 elsewhere
-abbrev pub held : List (Device × ℕ × ℕ) → Device → ℕ → ℕ
-held [] d n = 0
-held (p ∷ ps) d n = cond (same_point p.0 p.1 d n) p.2 (held ps d n)
+abbrev pub value_among : List (Device × ℕ × ℕ) → Device → ℕ → ℕ
+value_among [] d n = 0
+value_among (p ∷ ps) d n = cond (same_point p.0 p.1 d n) p.2 (value_among ps d n)
 
 -- a memory of 64 points a device, all open, with these values
-abbrev pub holding : List (Device × ℕ × ℕ) → Meaning
-holding ps = record { extent = λ d. 64; value = held ps; opened = λ d n. true }
+abbrev pub memory_of : List (Device × ℕ × ℕ) → Meaning
+memory_of ps = record { extent = λ d. 64; value = value_among ps; opened = λ d n. true }
 
 -- taking a frame with reply space 4,096, the write flag on and nothing registered
 abbrev pub take : Code → List (Device × ℕ × ℕ) → List ℕ → Served
-take code ps xs = served code xs 4096 (holding ps) true None
+take code ps xs = served code xs 4096 (memory_of ps) true None
 
 -- the number of the fault that was met, 0 for none
 abbrev pub met : Option Fault → ℕ
@@ -30,8 +30,8 @@ abbrev pub replies : Code → List (Device × ℕ × ℕ) → List ℕ → List 
 replies code ps xs reply = bytes_eq (take code ps xs).bytes reply && (take code ps xs).taken == length xs
 
 -- whether a frame is accepted, and behind so many bytes of head its reply has these data
-abbrev pub shows : Code → ℕ → List (Device × ℕ × ℕ) → List ℕ → List ℕ → Bool
-shows code head ps xs bytes = bytes_eq (drop head (take code ps xs).bytes) bytes && met (take code ps xs).fault_met == 0
+abbrev pub reads_as : Code → ℕ → List (Device × ℕ × ℕ) → List ℕ → List ℕ → Bool
+reads_as code head ps xs bytes = bytes_eq (drop head (take code ps xs).bytes) bytes && met (take code ps xs).fault_met == 0
 
 -- whether a frame meets the fault of this number
 abbrev pub meets : Code → List (Device × ℕ × ℕ) → List ℕ → ℕ → Bool

@@ -12,7 +12,7 @@ use Rattle.request.specs.Verdicts.{command}
 use Rattle.request.specs.Writing.{writing}
 use Rattle.server.specs.Registered.{Listed}
 use Rattle.server.specs.Serves.{served}
-use Rattle.examples.specs.Taking.{holding, take, met}
+use Rattle.examples.specs.Taking.{memory_of, take, met}
 
 -- a random write gives D5 1 and then 2: D5 is 2
 abbrev later_wins : Bool
@@ -26,12 +26,12 @@ abbrev settings : ℕ → List Setting
 settings zero = []
 settings (suc n) = ((D, n), 7) ∷ settings n
 
-abbrev ended : Result Asked Fault → ℕ
-ended (Ok b) = 0
-ended (Err f) = number_of f.cause
+abbrev number_met : Result Asked Fault → ℕ
+number_met (Ok b) = 0
+number_met (Err f) = number_of f.cause
 
 abbrev end_code : Code → Asked → ℕ
-end_code code a = ended (judged code wide (command a) (writing code a) 0)
+end_code code a = number_met (judged code wide (command a) (writing code a) 0)
 
 abbrev gets : Asked → ℕ → Bool
 gets a n = end_code Binary a == n && end_code Ascii a == n
@@ -55,7 +55,7 @@ one_word (Some l) = length l.0 == 1
 -- a registration that is refused leaves the old one
 abbrev registration_kept : Bool
 registration_kept =
-    let s = served Ascii (codes "500000FF03FF000018001008010000" ++ codes "0100D*000064") 4096 (holding []) true (Some ((D, 3) ∷ [], [])) in
+    let s = served Ascii (codes "500000FF03FF000018001008010000" ++ codes "0100D*000064") 4096 (memory_of []) true (Some ((D, 3) ∷ [], [])) in
     (met s.fault_met == 0xC056) && one_word s.registered
 
 abbrev pub writes_worked : Bool

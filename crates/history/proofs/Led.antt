@@ -8,12 +8,12 @@ use Rattle.memory.specs.Leaving.{Leaving, LeftBy, Leads}
 use Rattle.wire.specs.declared.code.Code.{Code}
 use Rattle.server.specs.Registered.{Listed}
 use Rattle.server.specs.Serves.{served}
-use Rattle.server.specs.Histories.{Move, setting, Shown, State, state, step, after, only_ok, made_by, made_through, Reached}
 use Rattle.server.proofs.Trying.{leads_on}
 use Rattle.history.specs.declared.call.Call.{Call}
 use Rattle.history.specs.declared.call.Call.TheVariants.{Open, End}
-use Rattle.history.specs.Moves.{move, moves, Left}
-use Rattle.history.proofs.Onward.{take_next}
+use Rattle.history.proofs.Onward.{state, take_next}
+use Rattle.server.specs.Histories.{Aside, Move, Reached, Shown, State, after, made_by, made_through, only_ok, setting, step}
+use Rattle.history.specs.Moves.{Left, move, moves}
 
 made_on : (s : State) (ms : List Move) (m : Move) → made_through s (ms ++ m ∷ []) ≡ made_through s ms ++ made_by (after s ms) m
 made_on s [] m = append-nil (made_by s m)
@@ -31,7 +31,7 @@ module _ {S : Type 0} (leaves : Leaving S) where
       subst (λ ws. Leads leaves x ws z) (sym made) (leads_on leaves x y z _ _ before one)
 
   -- the flag of a call under another name
-  pub led_flag : (m : Meaning) (flag flag' : Bool) (b : Option Bool) (g : Option Listed) (c : Move) (y z : S) → flag ≡ flag' → Leads leaves y (made_by (state m flag b g) c) z → Leads leaves y (made_by (state m flag' b g) c) z
+  pub led_flag : (m : Meaning) (flag flag' : Bool) (b : Aside) (g : Option Listed) (c : Move) (y z : S) → flag ≡ flag' → Leads leaves y (made_by (state m flag b g) c) z → Leads leaves y (made_by (state m flag' b g) c) z
   led_flag m flag flag' b g c y z e l = subst (λ f. Leads leaves y (made_by (state m f b g) c) z) e l
 
   -- a frame with its reply space under another name

@@ -7,9 +7,19 @@ use Rattle.server.specs.Registered.{Listed}
 use Rattle.history.specs.declared.call.Call.{Call}
 use Rattle.history.specs.declared.call.Call.TheVariants.{Frame, Set, Open, End}
 use Rattle.history.specs.declared.call.Outcome.{Outcome}
-use Rattle.server.specs.Histories.{Move, frame, opening, ending, Shown, taken, window, State, state, step, outcome, shown, after, closed, final, Reached, Ran, CarriesOn}
 use Rattle.server.proofs.Onward.{carries_on}
-use Rattle.history.specs.Moves.{move, moves, told, tellings, StaysIn, Left}
+use Rattle.server.specs.Histories.{Aside, Lawful, Move, Ran, Reached, Shown, State, after, closed, ending, frame, no_window, opening, outcome, step, taken, window}
+use Rattle.std.specs.Prelude.{vec_len, vec_items}
+use Rattle.std.specs.Global.{Vec}
+use Rattle.history.specs.Moves.{SoFar, Left, StaysIn, move, moves, showing, showings}
+use Rattle.server.specs.Kept.{CarriesOn}
+
+-- a state, and what stands aside within a window
+abbrev pub state : Meaning → Bool → Aside → Option Listed → State
+state m flag w g = record { meaning = m; flag = flag; registered = g; aside = w }
+
+abbrev pub within : Bool → Aside
+within was = record { before = Some was }
 
 -- the call that is left first of a list is the next that is taken
 pub take_next : (all : List Move) (k : ℕ) (m : Move) (rest : List Move) → drop k all ≡ m ∷ rest → take (suc k) all ≡ take k all ++ m ∷ []
@@ -21,27 +31,34 @@ take_next (x ∷ xs) (suc k) m rest e = ap (λ l. x ∷ l) (take_next xs k m res
 drop_next : (all : List Move) (k : ℕ) (m : Move) (rest : List Move) → drop k all ≡ m ∷ rest → drop (k + 1) all ≡ rest
 drop_next all k m rest e = sym (drop-drop 1 k all) ∙ ap (drop 1) e
 
-map_on : (os : List Outcome) (o : Outcome) → tellings (os ++ o ∷ []) ≡ tellings os ++ told o ∷ []
+map_on : (os : List Outcome) (o : Outcome) → showings (os ++ o ∷ []) ≡ showings os ++ showing o ∷ []
 map_on [] o = refl
-map_on (p ∷ os) o = ap (λ l. told p ∷ l) (map_on os o)
+map_on (p ∷ os) o = ap (λ l. showing p ∷ l) (map_on os o)
 
 -- one call more of a list is carried out, the first of those that are left
 pub one_more : (s₀ : State) (all : List Move) (k k' : ℕ) (d : Call) (m : Move) (cs cs' : List Call) (os os' : List Outcome) (o : Outcome) (s s' : State)
-    → k' ≡ k + 1 → cs ≡ d ∷ cs' → move d ≡ m → os' ≡ os ++ o ∷ [] → CarriesOn s m (told o) s'
-    → Left all k cs → Reached s₀ (take k all) (tellings os) s → Reached s₀ (take k' all) (tellings os') s'
+    → k' ≡ k + 1 → cs ≡ d ∷ cs' → move d ≡ m → os' ≡ os ++ o ∷ [] → CarriesOn s m (showing o) s'
+    → Left all k cs → Reached s₀ (take k all) (showings os) s → Reached s₀ (take k' all) (showings os') s'
 one_more s₀ all k k' d m cs cs' os os' o s s' next here named more one left so_far =
     let first : drop k all ≡ m ∷ moves cs' = left ∙ ap moves here ∙ ap (λ n. n ∷ moves cs') named in
     let to : take k' all ≡ take k all ++ m ∷ [] = ap (λ n. take n all) (next ∙ add-one k) ∙ take_next all k m (moves cs') first in
-    let outs : tellings os' ≡ tellings os ++ told o ∷ [] = ap tellings more ∙ map_on os o in
-    let r = one s₀ (take k all) (tellings os) so_far in
-    subst (λ l. Reached s₀ l (tellings os') s') (sym to) (subst (λ l. Reached s₀ (take k all ++ m ∷ []) l s') (sym outs) r)
+    let outs : showings os' ≡ showings os ++ showing o ∷ [] = ap showings more ∙ map_on os o in
+    let r = (one s₀ (take k all) (showings os) so_far).reached in
+    subst (λ l. Reached s₀ l (showings os') s') (sym to) (subst (λ l. Reached s₀ (take k all ++ m ∷ []) l s') (sym outs) r)
 
 -- and the others are left then
 pub left_on : (all : List Move) (k k' : ℕ) (d : Call) (cs cs' : List Call) → k' ≡ k + 1 → cs ≡ d ∷ cs' → Left all k cs → Left all k' cs'
 left_on all k k' d cs cs' next here left = ap (λ n. drop n all) next ∙ drop_next all k (move d) (moves cs') (left ∙ ap moves here)
 
+-- both
+pub so_far_on : (s₀ : State) (all : List Move) (k : ℕ) (d : Call) (m : Move) (cs cs' : List Call) (os : List Outcome) (v : Vec Outcome) (o : Outcome) (s s' : State)
+    → vec_len v ≡ k + 1 → cs ≡ d ∷ cs' → move d ≡ m → vec_items v ≡ os ++ o ∷ [] → CarriesOn s m (showing o) s'
+    → Left all k cs → Reached s₀ (take k all) (showings os) s → SoFar s₀ all cs' v s'
+so_far_on s₀ all k d m cs cs' os v o s s' next here named more one left so_far =
+    record { left = left_on all k (vec_len v) d cs cs' next here left; reached = one_more s₀ all k (vec_len v) d m cs cs' os (vec_items v) o s s' next here named more one left so_far }
+
 -- the flag under another name
-pub with_flag : (m m' : Meaning) (flag flag' : Bool) (b : Option Bool) (g g' : Option Listed) (c : Move) (o : Shown) → flag ≡ flag'
+pub with_flag : (m m' : Meaning) (flag flag' : Bool) (b : Aside) (g g' : Option Listed) (c : Move) (o : Shown) → flag ≡ flag'
     → CarriesOn (state m flag b g) c o (state m' flag b g') → CarriesOn (state m flag' b g) c o (state m' flag' b g')
 with_flag m m' flag flag' b g g' c o e one = subst (λ f. CarriesOn (state m f b g) c o (state m' f b g')) e one
 
@@ -56,27 +73,27 @@ pub fixed_as : (s : State) (m : Move) (o : Shown) → o ≡ outcome s m → Carr
 fixed_as s m o e = carries_on s m o (step s m) e refl
 
 -- an opening within a window and an ending outside one are declined
-module _ (m : Meaning) (flag : Bool) (g : Option Listed) (o : Outcome) (shows : told o ≡ window None) where
-  declines_open : (b : Option Bool) → is_some b ≡ true → CarriesOn (state m flag b g) opening (told o) (state m flag b g)
+module _ (m : Meaning) (flag : Bool) (g : Option Listed) (o : Outcome) (shows : showing o ≡ window None) where
+  declines_open : (b : Option Bool) → is_some b ≡ true → CarriesOn (state m flag (record { before = b }) g) opening (showing o) (state m flag (record { before = b }) g)
   declines_open None e = cc
   declines_open (Some was) e = fixed_as _ _ _ shows
 
-  declines_end : (b : Option Bool) → is_none b ≡ true → CarriesOn (state m flag b g) ending (told o) (state m flag b g)
+  declines_end : (b : Option Bool) → is_none b ≡ true → CarriesOn (state m flag (record { before = b }) g) ending (showing o) (state m flag (record { before = b }) g)
   declines_end None e = fixed_as _ _ _ shows
   declines_end (Some was) e = cc
 
-  pub declines : (c : Call) → (c ≡ Open) ⊎ (c ≡ End) → (b : Option Bool) → StaysIn b (move c) → CarriesOn (state m flag b g) (move c) (told o) (state m flag b g)
-  declines c (inl e) b stays = subst (λ k. CarriesOn (state m flag b g) k (told o) (state m flag b g)) (sym (ap move e)) (declines_open b (subst (StaysIn b) (ap move e) stays))
-  declines c (inr e) b stays = subst (λ k. CarriesOn (state m flag b g) k (told o) (state m flag b g)) (sym (ap move e)) (declines_end b (subst (StaysIn b) (ap move e) stays))
+  pub declines : (c : Call) → (c ≡ Open) ⊎ (c ≡ End) → (b : Aside) → StaysIn (move c) b → CarriesOn (state m flag b g) (move c) (showing o) (state m flag b g)
+  declines c (inl e) b stays = subst (λ k. CarriesOn (state m flag b g) k (showing o) (state m flag b g)) (sym (ap move e)) (declines_open b.before (subst (λ k. StaysIn k b) (ap move e) stays))
+  declines c (inr e) b stays = subst (λ k. CarriesOn (state m flag b g) k (showing o) (state m flag b g)) (sym (ap move e)) (declines_end b.before (subst (λ k. StaysIn k b) (ap move e) stays))
 
 -- within a window any call but an ending stays in it, and outside any but an opening stays outside
-pub stays_in : (was : Bool) (c : Call) → (c ≡ End → ⊥) → StaysIn (Some was) (move c)
+pub stays_in : (was : Bool) (c : Call) → (c ≡ End → ⊥) → StaysIn (move c) (within was)
 stays_in was (Frame code bytes space) h = tt
 stays_in was (Set d n v) h = tt
 stays_in was Open h = refl
 stays_in was End h = absurd (h refl)
 
-pub stays_out : (c : Call) → (c ≡ Open → ⊥) → StaysIn None (move c)
+pub stays_out : (c : Call) → (c ≡ Open → ⊥) → StaysIn (move c) no_window
 stays_out (Frame code bytes space) h = tt
 stays_out (Set d n v) h = tt
 stays_out Open h = absurd (h refl)
@@ -84,48 +101,31 @@ stays_out End h = refl
 
 -- the flag before a window under another name
 pub with_was : (s₀ : State) (ms : List Move) (os : List Shown) (m : Meaning) (was was' : Bool) (g : Option Listed) → was ≡ was'
-    → Reached s₀ ms os (state m true (Some was) g) → Reached s₀ ms os (state m true (Some was') g)
-with_was s₀ ms os m was was' g e r = subst (λ w. Reached s₀ ms os (state m true (Some w) g)) e r
+    → Reached s₀ ms os (state m true (within was) g) → Reached s₀ ms os (state m true (within was') g)
+with_was s₀ ms os m was was' g e r = subst (λ w. Reached s₀ ms os (state m true (within w) g)) e r
 
 -- the ending of a window, which shows the flag that it puts back
-pub ended : (m : Meaning) (was flag : Bool) (g : Option Listed) (o : Outcome) → was ≡ flag → told o ≡ window (Some was) → CarriesOn (state m true (Some was) g) ending (told o) (state m flag None g)
-ended m was flag g o e shows = carries_on _ _ _ _ shows (ap (λ f. state m f None g) (sym e))
+pub ending_carries : (m : Meaning) (was flag : Bool) (g : Option Listed) (o : Outcome) → was ≡ flag → showing o ≡ window (Some was) → CarriesOn (state m true (within was) g) ending (showing o) (state m flag no_window g)
+ending_carries m was flag g o e shows = carries_on _ _ _ _ shows (ap (λ f. state m f no_window g) (sym e))
 
 -- the opening of a window, by the flag under either of its names
-pub opened : (m : Meaning) (flag was : Bool) (g : Option Listed) (o : Outcome) → was ≡ flag → told o ≡ window (Some true) → CarriesOn (state m flag None g) opening (told o) (state m true (Some was) g)
-opened m flag was g o e shows = carries_on _ _ _ _ shows (ap (λ f. state m true (Some f) g) e)
+pub opening_carries : (m : Meaning) (flag was : Bool) (g : Option Listed) (o : Outcome) → was ≡ flag → showing o ≡ window (Some true) → CarriesOn (state m flag no_window g) opening (showing o) (state m true (within was) g)
+opening_carries m flag was g o e shows = carries_on _ _ _ _ shows (ap (λ f. state m true (within f) g) e)
 
 -- what was left under another name of the flag
-pub ran_flag : (s₀ : State) (ms : List Move) (os : List Shown) (m : Meaning) (flag flag' : Bool) (g : Option Listed) → flag ≡ flag' → Ran s₀ ms os (state m flag None g) → Ran s₀ ms os (state m flag' None g)
-ran_flag s₀ ms os m flag flag' g e r = subst (λ f. Ran s₀ ms os (state m f None g)) e r
+pub ran_flag : (s₀ : State) (ms : List Move) (os : List Shown) (m : Meaning) (flag flag' : Bool) (g : Option Listed) → flag ≡ flag' → Ran s₀ ms os (state m flag no_window g) → Ran s₀ ms os (state m flag' no_window g)
+ran_flag s₀ ms os m flag flag' g e r = subst (λ f. Ran s₀ ms os (state m f no_window g)) e r
 
-pub reached_flag : (s₀ : State) (ms : List Move) (os : List Shown) (m : Meaning) (flag flag' : Bool) (g : Option Listed) → flag ≡ flag' → Reached s₀ ms os (state m flag None g) → Reached s₀ ms os (state m flag' None g)
-reached_flag s₀ ms os m flag flag' g e r = subst (λ f. Reached s₀ ms os (state m f None g)) e r
+pub reached_flag : (s₀ : State) (ms : List Move) (os : List Shown) (m : Meaning) (flag flag' : Bool) (g : Option Listed) → flag ≡ flag' → Reached s₀ ms os (state m flag no_window g) → Reached s₀ ms os (state m flag' no_window g)
+reached_flag s₀ ms os m flag flag' g e r = subst (λ f. Reached s₀ ms os (state m f no_window g)) e r
 
 -- the end of a list changes nothing where no window is open
-pub at_rest : (s₀ : State) (ms : List Move) (os : List Shown) (m : Meaning) (flag : Bool) (g : Option Listed) → Reached s₀ ms os (state m flag None g) → Ran s₀ ms os (state m flag None g)
-at_rest s₀ ms os m flag g r = record { showed = r.showed; left = ap (λ s. closed s) r.led }
-
--- lists one behind the other
-shown_more : (s : State) (ms ns : List Move) → shown s (ms ++ ns) ≡ shown s ms ++ shown (after s ms) ns
-shown_more s [] ns = refl
-shown_more s (m ∷ ms) ns = ap (λ os. outcome s m ∷ os) (shown_more (step s m) ms ns)
-
-after_more : (s : State) (ms ns : List Move) → after s (ms ++ ns) ≡ after (after s ms) ns
-after_more s [] ns = refl
-after_more s (m ∷ ms) ns = after_more (step s m) ms ns
-
--- what ran from where an earlier history led
-pub ran_on : (s₀ s z : State) (ms ns : List Move) (os ps : List Shown) → Reached s₀ ms os s → Ran s ns ps z → Ran s₀ (ms ++ ns) (os ++ ps) z
-ran_on s₀ s z ms ns os ps r ran =
-    record {
-      showed = (λ i. r.showed i ++ (ran.showed ∙ ap (λ t. shown t ns) r.led) i) ∙ sym (shown_more s₀ ms ns);
-      left = ran.left ∙ ap (λ t. final t ns) r.led ∙ sym (ap closed (after_more s₀ ms ns));
-    }
+pub at_rest : (s₀ : State) (ms : List Move) (os : List Shown) (m : Meaning) (flag : Bool) (g : Option Listed) → Reached s₀ ms os (state m flag no_window g) → Ran s₀ ms os (state m flag no_window g)
+at_rest s₀ ms os m flag g r = record { lawful = r.lawful; showed = r.showed; left = ap (λ s. closed s) r.led }
 
 -- where nothing was carried out
-pub none_ran : (m : Meaning) (flag : Bool) (g : Option Listed) (cs : List Call) (n : ℕ) (os : List Outcome) → n ≡ 0 → os ≡ []
-    → Ran (state m flag None g) (take n (moves cs)) (tellings os) (state m flag None g)
-none_ran m flag g cs n os z e =
-    let P : ℕ → List Outcome → Type 0 = λ k l. Ran (state m flag None g) (take k (moves cs)) (tellings l) (state m flag None g) in
-    subst (λ k. P k os) (sym z) (subst (P 0) (sym e) (record { showed = refl; left = refl }))
+pub none_ran : (m : Meaning) → Lawful m → (flag : Bool) (g : Option Listed) (cs : List Call) (n : ℕ) (os : List Outcome) → n ≡ 0 → os ≡ []
+    → Ran (state m flag no_window g) (take n (moves cs)) (showings os) (state m flag no_window g)
+none_ran m lawful flag g cs n os z e =
+    let P : ℕ → List Outcome → Type 0 = λ k l. Ran (state m flag no_window g) (take k (moves cs)) (showings l) (state m flag no_window g) in
+    subst (λ k. P k os) (sym z) (subst (P 0) (sym e) (record { lawful = lawful; showed = refl; left = refl }))

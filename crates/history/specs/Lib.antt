@@ -1,4 +1,2 @@
 pub mod Moves
-pub mod Asks
-pub mod Latest
-pub mod Pairs
+pub mod Replays

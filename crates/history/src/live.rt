@@ -1,10 +1,11 @@
 // One call of a history, in a window or not.
 // Memory, settings and registration are apart here and in the loops over calls, as in the server: a window lends the settings while the others are written.
-ghost use Rattle.std.specs.Prelude.{◌≡◌, Bool, Option, MatchResult};
+ghost use Rattle.std.specs.Prelude.{◌≡◌, false, is_ok, IfOk, MatchResult};
 ghost use Rattle.server.specs.Registered.{registered};
 ghost use Rattle.memory.specs.Leaving.{Leads};
-ghost use Rattle.server.specs.Histories.{frame, state, made_by, CarriesOn};
-ghost use Rattle.history.specs.Moves.{move, told, StaysIn};
+ghost use Rattle.server.specs.Histories.{frame, Aside, state_at, made_by};
+ghost use Rattle.server.specs.Kept.{CarriesOn};
+ghost use Rattle.history.specs.Moves.{move, showing, StaysIn};
 
 use crate::call::{Call, Outcome};
 use crate::windows::declined;
@@ -23,9 +24,14 @@ fn answer_frame<M: WritableMemory>(
     settings: &Settings,
     registration: &mut Registration,
 ) -> Result<Outcome, AllocError>
-    ensures left { let s = λ (b : Option Bool). state (M.means memory.old) settings.now.write_flag b (registered registration.old) in
-        MatchResult result (λ _. (b : Option Bool) → Leads M.leaves memory.old (made_by (s b) (frame code bytes.now space.now)) memory.new) (λ _. memory.new ≡ memory.old) }
-    ensures carries { MatchResult result (λ o. (b : Option Bool) → CarriesOn (state (M.ReadableMemory.means memory.old) settings.now.write_flag b (registered registration.old)) (frame code bytes.now space.now) (told o) (state (M.ReadableMemory.means memory.new) settings.now.write_flag b (registered registration.new))) (λ _. (M.ReadableMemory.means memory.new ≡ M.ReadableMemory.means memory.old) × (registered registration.new ≡ registered registration.old)) }
+    ensures left { let s = state_at M.means registered memory.old settings.now registration.old in
+        let made = λ (w : Aside). made_by (s w) (frame code bytes.now space.now) in
+        MatchResult result (λ _. (w : Aside) → Leads M.leaves memory.old (made w) memory.new) (λ _. memory.new ≡ memory.old) }
+    ensures carries { let s = state_at M.means registered memory.old settings.now registration.old in
+        let s' = state_at M.means registered memory.new settings.now registration.new in
+        IfOk result (λ o. (w : Aside) → CarriesOn (s w) (frame code bytes.now space.now) (showing o) (s' w)) }
+    ensures kept { is_ok result ≡ false →
+        (M.means memory.new ≡ M.means memory.old) × (registered registration.new ≡ registered registration.old) }
 {
     let mut space = Vec::from_slice(heap, space)?;
     let answer = take_frame(
@@ -49,9 +55,14 @@ pub(crate) fn carry_out<M: WritableMemory>(
     settings: &Settings,
     registration: &mut Registration,
 ) -> Result<Outcome, AllocError>
-    ensures left { let s = λ (b : Option Bool). state (M.means memory.old) settings.now.write_flag b (registered registration.old) in
-        MatchResult result (λ _. (b : Option Bool) → Leads M.leaves memory.old (made_by (s b) (move call.entry)) memory.new) (λ _. memory.new ≡ memory.old) }
-    ensures carries { MatchResult result (λ o. (b : Option Bool) → StaysIn b (move call.entry) → CarriesOn (state (M.ReadableMemory.means memory.old) settings.now.write_flag b (registered registration.old)) (move call.entry) (told o) (state (M.ReadableMemory.means memory.new) settings.now.write_flag b (registered registration.new))) (λ _. (M.ReadableMemory.means memory.new ≡ M.ReadableMemory.means memory.old) × (registered registration.new ≡ registered registration.old)) }
+    ensures left { let s = state_at M.means registered memory.old settings.now registration.old in
+        let made = λ (w : Aside). made_by (s w) (move call.entry) in
+        MatchResult result (λ _. (w : Aside) → Leads M.leaves memory.old (made w) memory.new) (λ _. memory.new ≡ memory.old) }
+    ensures carries { let s = state_at M.means registered memory.old settings.now registration.old in
+        let s' = state_at M.means registered memory.new settings.now registration.new in
+        IfOk result (λ o. (w : Aside) → StaysIn (move call.entry) w → CarriesOn (s w) (move call.entry) (showing o) (s' w)) }
+    ensures kept { is_ok result ≡ false →
+        (M.means memory.new ≡ M.means memory.old) × (registered registration.new ≡ registered registration.old) }
 {
     match call {
         Call::Frame { code, bytes, space } => {

@@ -1,11 +1,11 @@
 // Carrying out a list of calls.
-ghost use Rattle.std.specs.Prelude.{◌≡◌, ◌+◌, ◌<◌, ◌≤◌, List, true, false, [], length, take, is_ok, Some, None, vec_len, vec_capacity};
+ghost use Rattle.std.specs.Prelude.{◌≡◌, ◌+◌, ◌<◌, ◌≤◌, List, true, false, [], length, take, is_ok, vec_len, vec_capacity};
 ghost use Rattle.std.specs.Slice.Iter.{iter_rest};
-ghost use Rattle.server.specs.Registered.{registered};
-ghost use Rattle.history.specs.Moves.{moves, tellings, Left};
 ghost use Rattle.memory.specs.Leaving.{Leads};
-ghost use Rattle.server.specs.Histories.{Move, State, state, made_through, Reached, Ran};
-ghost use Rattle.history.specs.Latest.{KeptTo, KeptOn};
+ghost use Rattle.server.specs.Registered.{registered};
+ghost use Rattle.server.specs.Histories.{Move, State, no_window, state_at, state_of, in_window_of, made_through, Ran};
+ghost use Rattle.history.specs.Moves.{moves, showings, Left, SoFar};
+ghost use Rattle.history.specs.Replays.{Replays};
 
 use crate::call::{Call, Outcome};
 use crate::live::carry_out;
@@ -27,16 +27,19 @@ fn run_window<M: WritableMemory>(
     requires room { vec_len outcomes.old + length (iter_rest calls.old) ≤ vec_capacity outcomes.old }
     ensures few { (vec_len outcomes.old ≤ vec_len outcomes.new) × (vec_len outcomes.new + length (iter_rest calls.new) ≤ vec_len outcomes.old + length (iter_rest calls.old)) }
     ensures room { vec_len outcomes.old + length (iter_rest calls.old) ≤ vec_capacity outcomes.new }
-    ensures led { let n = vec_len outcomes.old in
-        let before = state (M.means memory.old) true (Some settings.old.write_flag) (registered registration.old) in
-        (s : State) (all : List Move) (from : M) →
-        Left all n (iter_rest calls.old) →
-        Reached s (take n all) (tellings outcomes.old.items) before →
-        Leads M.leaves from (made_through s (take n all)) memory.old →
+    ensures led { let here = in_window_of M.means memory.old settings.old registration.old in
+        (s : State) (all : List Move) (from : M) → SoFar s all (iter_rest calls.old) outcomes.old here →
+        Leads M.leaves from (made_through s (take (vec_len outcomes.old) all)) memory.old →
         Leads M.leaves from (made_through s (take (vec_len outcomes.new) all)) memory.new }
     ensures flag { settings.new.write_flag ≡ settings.old.write_flag }
-    ensures ran { (s : State) (all : List Move) → Left all (vec_len outcomes.old) (iter_rest calls.old) → Reached s (take (vec_len outcomes.old) all) (tellings outcomes.old.items) (state (M.ReadableMemory.means memory.old) true (Some settings.old.write_flag) (registered registration.old)) → Ran s (take (vec_len outcomes.new) all) (tellings outcomes.new.items) (state (M.ReadableMemory.means memory.new) settings.old.write_flag None (registered registration.new)) }
-    ensures reached { is_ok result ≡ true → (s : State) (all : List Move) → Left all (vec_len outcomes.old) (iter_rest calls.old) → 0 < length (iter_rest calls.new) → Reached s (take (vec_len outcomes.old) all) (tellings outcomes.old.items) (state (M.ReadableMemory.means memory.old) true (Some settings.old.write_flag) (registered registration.old)) → Reached s (take (vec_len outcomes.new) all) (tellings outcomes.new.items) (state (M.ReadableMemory.means memory.new) settings.old.write_flag None (registered registration.new)) }
+    ensures ran { let here = in_window_of M.means memory.old settings.old registration.old in
+        let behind = state_at M.means registered memory.new settings.old registration.new no_window in
+        (s : State) (all : List Move) → SoFar s all (iter_rest calls.old) outcomes.old here →
+        Ran s (take (vec_len outcomes.new) all) (showings outcomes.new.items) behind }
+    ensures reached { is_ok result ≡ true → 0 < length (iter_rest calls.new) →
+        let here = in_window_of M.means memory.old settings.old registration.old in
+        let behind = state_at M.means registered memory.new settings.old registration.new no_window in
+        (s : State) (all : List Move) → SoFar s all (iter_rest calls.old) outcomes.old here → SoFar s all (iter_rest calls.new) outcomes.new behind }
     ensures left { is_ok result ≡ true → (all : List Move) → Left all (vec_len outcomes.old) (iter_rest calls.old) → Left all (vec_len outcomes.new) (iter_rest calls.new) }
     ensures whole { is_ok result ≡ true → vec_len outcomes.new + length (iter_rest calls.new) ≡ vec_len outcomes.old + length (iter_rest calls.old) }
     ensures want { is_ok result ≡ false → vec_len outcomes.new + length (iter_rest calls.new) < vec_len outcomes.old + length (iter_rest calls.old) }
@@ -70,10 +73,12 @@ fn run_calls<M: WritableMemory>(
 ) -> Result<(), AllocError>
     requires room { length calls.now ≤ vec_capacity outcomes.old }
     requires none { (vec_len outcomes.old ≡ 0) × (outcomes.old.items ≡ []) }
-    ensures led { let s = state (M.means server.old.memory) server.old.settings.write_flag None (registered server.old.registration) in
-        Leads M.leaves server.old.memory (made_through s (take (vec_len outcomes.new) (moves calls.now))) server.new.memory }
+    ensures led { let done = take (vec_len outcomes.new) (moves calls.now) in
+        Leads M.leaves server.old.memory (made_through (state_of M.means server.old) done) server.new.memory }
     ensures flag { server.new.settings.write_flag ≡ server.old.settings.write_flag }
-    ensures ran { Ran (state (M.ReadableMemory.means server.old.memory) server.old.settings.write_flag None (registered server.old.registration)) (take (vec_len outcomes.new) (moves calls.now)) (tellings outcomes.new.items) (state (M.ReadableMemory.means server.new.memory) server.old.settings.write_flag None (registered server.new.registration)) }
+    ensures ran { let done = take (vec_len outcomes.new) (moves calls.now) in
+        let behind = state_at M.means registered server.new.memory server.old.settings server.new.registration no_window in
+        Ran (state_of M.means server.old) done (showings outcomes.new.items) behind }
     ensures whole { is_ok result ≡ true → vec_len outcomes.new ≡ length calls.now }
     ensures want { is_ok result ≡ false → vec_len outcomes.new < length calls.now }
 {
@@ -111,13 +116,9 @@ pub fn replay<M: WritableMemory>(
     server: &mut Server<M>,
     calls: &[Call<'_>],
 ) -> Replayed
-    ensures led { let s = state (M.means server.old.memory) server.old.settings.write_flag None (registered server.old.registration) in
-        Leads M.leaves server.old.memory (made_through s (take (vec_len result.outcomes) (moves calls.now))) server.new.memory }
-    ensures flag { server.new.settings.write_flag ≡ server.old.settings.write_flag }
-    ensures kept { KeptTo (state (M.ReadableMemory.means server.old.memory) server.old.settings.write_flag None (registered server.old.registration)) (take (vec_len result.outcomes) (moves calls.now)) (tellings result.outcomes.items) (state (M.ReadableMemory.means server.new.memory) server.old.settings.write_flag None (registered server.new.registration)) }
-    ensures onward { KeptOn (state (M.ReadableMemory.means server.old.memory) server.old.settings.write_flag None (registered server.old.registration)) (take (vec_len result.outcomes) (moves calls.now)) (tellings result.outcomes.items) (state (M.ReadableMemory.means server.new.memory) server.old.settings.write_flag None (registered server.new.registration)) }
-    ensures whole { is_ok result.end ≡ true → vec_len result.outcomes ≡ length calls.now }
-    ensures want { is_ok result.end ≡ false → 0 < length calls.now → vec_len result.outcomes < length calls.now }
+    ensures led { let done = take (vec_len result.outcomes) (moves calls.now) in
+        Leads M.leaves server.old.memory (made_through (state_of M.means server.old) done) server.new.memory }
+    ensures replays { Replays (state_of M.means server.old) calls.now result (state_of M.means server.new) }
 {
     match Vec::with_capacity(heap, calls.len()) {
         Ok(mut outcomes) => {

@@ -34,7 +34,7 @@ fn number_of(device: Device, digits: &str) -> Option<u32> {
 }
 
 // A value: hexadecimal digits and H, or a decimal number.
-fn value_of(text: &str) -> Option<u16> {
+fn value_in(text: &str) -> Option<u16> {
     match text.strip_suffix('H') {
         Some(digits) => u16::from_str_radix(digits, 16).ok(),
         None => u16::from_str_radix(text, 10).ok(),
@@ -47,7 +47,7 @@ fn point_of(name: &str, value: &str) -> Option<Point> {
     Some(Point {
         device,
         number: number_of(device, digits)?,
-        value: value_of(value)?,
+        value: value_in(value)?,
     })
 }
 
@@ -64,7 +64,7 @@ fn read_entry(word: &str) -> anyhow::Result<Option<Point>> {
 }
 
 // The list of a cell, which may name the row that registers before it.
-fn list_in(cell: &str) -> &str {
+fn points_in(cell: &str) -> &str {
     if cell == "-" || cell == "all named points=any" {
         return "";
     }
@@ -82,7 +82,7 @@ fn set_point<M: WritableMemory>(memory: &mut M, point: Point) -> anyhow::Result<
 
 // Gives the points of a list their values.
 pub fn set_points<M: WritableMemory>(memory: &mut M, cell: &str) -> anyhow::Result<()> {
-    for word in list_in(cell).split_whitespace() {
+    for word in points_in(cell).split_whitespace() {
         if let Some(point) = read_entry(word)? {
             set_point(memory, point)?;
         }
@@ -103,7 +103,7 @@ pub fn first_unlike<M: ReadableMemory>(
     memory: &M,
     cell: &str,
 ) -> anyhow::Result<Option<(Point, Point)>> {
-    for word in list_in(cell).split_whitespace() {
+    for word in points_in(cell).split_whitespace() {
         if let Some(point) = read_entry(word)? {
             let found = found_at(memory, point)?;
             if found != point {

@@ -6,4 +6,10 @@ pub mod Listing
 pub mod Taken
 pub mod Upheld
 pub mod Says
+pub mod Looser
+pub mod Exact
+pub mod Accepts
+pub mod Latest
+pub mod Forms
+pub mod Pairs
 pub mod Onward

@@ -23,13 +23,13 @@ use Rattle.server.specs.Answers.{Answered, accepted, refused, answer_bytes}
 use Rattle.server.specs.Serves.{Done, unchanged, done, late_fault, answered, taken_up, Served, served, Came}
 use Rattle.server.specs.Laws.{ReadsMoveNothing}
 use Rattle.server.proofs.Upheld.{stays}
-use Rattle.server.specs.Says.{command_number, subcommand_number, writes, carried, reaction, frame_of, head_of, Sendable, cause_of, cause_met, AlikeAnswer}
+use Rattle.server.specs.Says.{command_number, subcommand_number, writes, by_verdict, reaction, frame_of, head_of, Sendable, cause_of, cause_met, AlikeAnswer}
 
 -- what `Reacted` says of a call, of what is fixed of it
 pub record Reacts (code : Code) (f : Front) (a : Asked) (d : Done) (t : Served) : Type 0 where
   pub whole : t.taken ≡ length (frame_of code f a)
   pub reply : t.bytes ≡ answer_bytes code (head_of code f a) d.answer
-  pub told : cause_met t.fault_met ≡ cause_of d.answer
+  pub cause : cause_met t.fault_met ≡ cause_of d.answer
   pub writes : t.writes ≡ d.writes
   pub leaves : t.meaning ≡ d.meaning
   pub lists : t.registered ≡ d.registered
@@ -40,7 +40,7 @@ AnswersAlike code xs space m flag g t =
     (a : Asked) (f : Front) (rest : List ℕ) → FrontFits f → Sendable a → 4096 ≤ space → xs ≡ frame_of code f a ++ rest → Reacts code f a (reaction a m flag g) t
 
 -- the numbers of a command fit their fields
-command_fits : (a : Asked) → command_number a < 65536
+pub command_fits : (a : Asked) → command_number a < 65536
 command_fits (read_bits d i n) = omega arith
 command_fits (read_words d i n) = omega arith
 command_fits (write_bits d i vs) = omega arith
@@ -51,7 +51,7 @@ command_fits monitor = omega arith
 command_fits (random_bits vs) = omega arith
 command_fits (random_write ws ds) = omega arith
 
-subcommand_fits : (a : Asked) → subcommand_number a < 65536
+pub subcommand_fits : (a : Asked) → subcommand_number a < 65536
 subcommand_fits (read_bits d i n) = omega arith
 subcommand_fits (read_words d i n) = omega arith
 subcommand_fits (write_bits d i vs) = omega arith
@@ -63,7 +63,7 @@ subcommand_fits (random_bits vs) = omega arith
 subcommand_fits (random_write ws ds) = omega arith
 
 -- the command of a request is served, but for a write while the flag is off
-asked_for : (a : Asked) (flag : Bool) → command_of (command_number a) (subcommand_number a) flag ≡ cond (writes a && not flag) (Err WriteOff) (Ok (command a))
+pub asked_for : (a : Asked) (flag : Bool) → command_of (command_number a) (subcommand_number a) flag ≡ cond (writes a && not flag) (Err WriteOff) (Ok (command a))
 asked_for (read_bits d i n) flag = refl
 asked_for (read_words d i n) flag = refl
 asked_for (write_bits d i vs) true = refl
@@ -83,11 +83,11 @@ late_cause h (accepted d) = refl
 late_cause h (refused c) = refl
 
 -- an answer comes to what the judgment without its place says
-answered_as : (code : Code) (f : Front) (a : Asked) (m : Meaning) (g : Option Listed) (r : Result Asked Fault) → Reacts code f a (carried m g (forget r)) (answered code (head_of code f a) m g r)
+answered_as : (code : Code) (f : Front) (a : Asked) (m : Meaning) (g : Option Listed) (r : Result Asked Fault) → Reacts code f a (by_verdict m g (forget r)) (answered code (head_of code f a) m g r)
 answered_as code f a m g (Ok b) =
-    record { whole = sym (length_request code f (command_number a) (subcommand_number a) (writing code a)); reply = refl; told = late_cause (head_of code f a) (done b m g).answer; writes = refl; leaves = refl; lists = refl }
+    record { whole = sym (length_request code f (command_number a) (subcommand_number a) (writing code a)); reply = refl; cause = late_cause (head_of code f a) (done b m g).answer; writes = refl; leaves = refl; lists = refl }
 answered_as code f a m g (Err e) =
-    record { whole = sym (length_request code f (command_number a) (subcommand_number a) (writing code a)); reply = refl; told = refl; writes = refl; leaves = refl; lists = refl }
+    record { whole = sym (length_request code f (command_number a) (subcommand_number a) (writing code a)); reply = refl; cause = refl; writes = refl; leaves = refl; lists = refl }
 
 -- the judgment of the frame, without its place
 judged_as : (code : Code) (f : Front) (a : Asked) (m : Meaning) (flag : Bool) → Sendable a
@@ -101,7 +101,7 @@ judged_as code f a m flag ok = go (writes a && not flag) (asked_for a flag)
         (alike code m flag (head_of code f a) (frame_of code f a) a (front_bytes code f (command_number a) (subcommand_number a) (length (writing code a))) ok.0 refl
         (length_front code f (command_number a) (subcommand_number a) (length (writing code a))) e).0
 
-reaction_is : (a : Asked) (m : Meaning) (g : Option Listed) (b : Bool) → carried m g (cond b (Err WriteOff) (verdict m a)) ≡ cond b (unchanged (refused WriteOff) m g) (carried m g (verdict m a))
+reaction_is : (a : Asked) (m : Meaning) (g : Option Listed) (b : Bool) → by_verdict m g (cond b (Err WriteOff) (verdict m a)) ≡ cond b (unchanged (refused WriteOff) m g) (by_verdict m g (verdict m a))
 reaction_is a m g true = refl
 reaction_is a m g false = refl
 
@@ -115,7 +115,7 @@ answers_alike code xs space m flag g a f rest fits ok room is =
     let head : tested code space xs ≡ Ok h = (frames.taken_up code space xs).back f c s ys rest fits (command_fits a) (subcommand_fits a) (ok.1 code) room is in
     let cut : take h.size xs ≡ frame_of code f a = ap (take h.size) is ∙ take_request code f c s ys rest in
     let same : served code xs space m flag g ≡ answered code h m g read = ap (taken_up code m flag g xs) head ∙ ap (λ zs. answered code h m g (request_in code m flag h zs)) cut in
-    let comes : carried m g (forget read) ≡ reaction a m flag g = ap (carried m g) (judged_as code f a m flag ok) ∙ reaction_is a m g (writes a && not flag) in
+    let comes : by_verdict m g (forget read) ≡ reaction a m flag g = ap (by_verdict m g) (judged_as code f a m flag ok) ∙ reaction_is a m g (writes a && not flag) in
     let Q : Done → Type 0 = λ d. Reacts code f a d (answered code h m g read) in
     subst (Reacts code f a (reaction a m flag g)) (sym same) (subst Q comes (answered_as code f a m g read))
 
@@ -132,7 +132,7 @@ alike_answer code xs m m' flag g g' r before after came within a f rest fits ok 
       whole = came.tells.takes ∙ t.whole;
       long = came.tells.long ∙ ap length t.reply;
       reply = ap (take r.length) came.tells.reply ∙ in_front before (served code xs (length before) m flag g).bytes r.length came.tells.long (subst (λ n. n ≤ length before) came.tells.long within) ∙ t.reply;
-      told = ap cause_met came.tells.meets ∙ t.told;
+      cause = ap cause_met came.tells.meets ∙ t.cause;
       leaves = came.means ∙ t.leaves;
       lists = came.lists ∙ t.lists;
     }
@@ -150,18 +150,18 @@ reads_only (random_bits vs) m g e = cc
 reads_only (random_write ws ds) m g e = cc
 
 -- whatever the tests say
-judged_only : (ts : List Test) (a : Asked) (m : Meaning) (g : Option Listed) → (done a m g).writes ≡ [] → (carried m g (judge ts a)).writes ≡ []
+judged_only : (ts : List Test) (a : Asked) (m : Meaning) (g : Option Listed) → (done a m g).writes ≡ [] → (by_verdict m g (judge ts a)).writes ≡ []
 judged_only [] a m g e = e
 judged_only (t ∷ ts) a m g e = go t.1 (judged_only ts a m g e)
   where
-    go : (b : Bool) → (carried m g (judge ts a)).writes ≡ [] → (carried m g (cond b (judge ts a) (Err t.0))).writes ≡ []
+    go : (b : Bool) → (by_verdict m g (judge ts a)).writes ≡ [] → (by_verdict m g (cond b (judge ts a) (Err t.0))).writes ≡ []
     go true h = h
     go false h = refl
 
 reacts_only : (a : Asked) (m : Meaning) (flag : Bool) (g : Option Listed) → writes a ≡ false → (reaction a m flag g).writes ≡ []
 reacts_only a m flag g e = go (writes a && not flag)
   where
-    go : (b : Bool) → (cond b (unchanged (refused WriteOff) m g) (carried m g (verdict m a))).writes ≡ []
+    go : (b : Bool) → (cond b (unchanged (refused WriteOff) m g) (by_verdict m g (verdict m a))).writes ≡ []
     go true = refl
     go false = judged_only (tests m a) a m g (reads_only a m g e)
 

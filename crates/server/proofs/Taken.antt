@@ -100,7 +100,7 @@ bits_low d (v ∷ vs) k h =
     let l = leb-true v 1 p.0 in
     (rw k (omega arith), bits_low d vs k p.1)
 
-kind_bit : (κ : Kind) → is_bit κ ≡ true → κ ≡ Bit
+pub kind_bit : (κ : Kind) → is_bit κ ≡ true → κ ≡ Bit
 kind_bit Bit e = refl
 kind_bit Word e = cc
 

@@ -15,12 +15,12 @@ use Rattle.server.specs.Registered.{Listed}
 use Rattle.server.proofs.Trying.{AllTaken, all_made}
 use Rattle.server.specs.Serves.{Tells, Came, finished, wrote}
 
-pub told : (code : Code) (h : Header) (end n at : ℕ) (met : Option Fault) (bytes r₀ r₁ r₂ : List ℕ) (answer : Answer)
+pub reply_told : (code : Code) (h : Header) (end n at : ℕ) (met : Option Fault) (bytes r₀ r₁ r₂ : List ℕ) (answer : Answer)
     → answer.taken ≡ h.size → answer.length ≡ at + n → answer.fault ≡ met
     → length bytes ≡ n → at ≡ head_size h.form * per_byte code
     → r₁ ≡ sets r₀ 0 (head_bytes code h n end) → r₂ ≡ sets r₁ at bytes
     → Tells h.size (reply_bytes code h end bytes) met answer r₀ r₂
-told code h end n at met bytes r₀ r₁ r₂ answer t l f e a p q =
+reply_told code h end n at met bytes r₀ r₁ r₂ answer t l f e a p q =
     record {
       takes = t;
       long = l ∙ sym (length-append (head_bytes code h (length bytes) end) bytes ∙ (λ i. (length_head code h (length bytes) end ∙ sym a) i + e i));

@@ -4,7 +4,7 @@ use Rattle.device.specs.declared.types.Device.{Device}
 use Rattle.memory.specs.declared.refusal.Refusal.{Refusal}
 use Rattle.memory.specs.Meaning.{Meaning, write_answer, written}
 use Rattle.memory.specs.Leaving.{Write, Leaving, LeftBy, Leads, Tries}
-use Rattle.server.specs.Writes.{stored, as_point, spread}
+use Rattle.server.specs.Writes.{after_writes, as_point, spread}
 
 -- no write would be refused
 abbrev pub AllTaken : Meaning → List Write → Type 0
@@ -54,11 +54,11 @@ still m d n v (u ∷ us) s = (s.0, still m d n v us s.1)
 
 -- where no write is refused, all are made
 pub all_made : {S : Type 0} (means : S → Meaning) (leaves : Leaving S) (s t : S) (ws : List Write) → AllTaken (means s) ws → Leads (Tries means leaves) s ws t
-    → Leads leaves s ws t × (means t ≡ stored (means s) ws)
+    → Leads leaves s ws t × (means t ≡ after_writes (means s) ws)
 all_made means leaves s t [] a h = (h, ap means h)
 all_made means leaves s t (w ∷ ws) a h =
     let u = h.0 in
     let left : leaves s w.0 w.1 w.2 u = subst (λ r. LeftBy leaves r s w.0 w.1 w.2 u) a.0 h.1.0 in
     let moved : means u ≡ written (Ok tt) (means s) w.0 w.1 w.2 = h.1.1 ∙ ap (λ r. written r (means s) w.0 w.1 w.2) a.0 in
     let rest = all_made means leaves u t ws (subst (λ m. AllTaken m ws) (sym moved) (still (means s) w.0 w.1 w.2 ws a.1)) h.2 in
-    ((u, left, rest.0), rest.1 ∙ ap (λ m. stored m ws) moved)
+    ((u, left, rest.0), rest.1 ∙ ap (λ m. after_writes m ws) moved)

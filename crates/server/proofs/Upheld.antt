@@ -17,19 +17,19 @@ use Rattle.server.specs.Laws.{FaultsMoveNothing, SpaceKept}
 no_fault : {P : Type 0} → ◌≡◌ {A = Bool} false true → P
 no_fault e = let z : ◌≡◌ {A = ℕ} 0 1 = cc in absurd (omega arith)
 
-carried : (h : Header) (a : Asked) (m : Meaning) (g : Option Listed) → is_some (late_fault h (done a m g).answer) ≡ true → (done a m g).writes ≡ []
-carried h (read_bits d i n) m g e = refl
-carried h (read_words d i n) m g e = refl
-carried h (write_bits d i vs) m g e = no_fault e
-carried h (write_words d i vs) m g e = no_fault e
-carried h (random_read ws ds) m g e = refl
-carried h (register ws ds) m g e = refl
-carried h monitor m g e = refl
-carried h (random_bits ss) m g e = no_fault e
-carried h (random_write ws ds) m g e = no_fault e
+carried_out : (h : Header) (a : Asked) (m : Meaning) (g : Option Listed) → is_some (late_fault h (done a m g).answer) ≡ true → (done a m g).writes ≡ []
+carried_out h (read_bits d i n) m g e = refl
+carried_out h (read_words d i n) m g e = refl
+carried_out h (write_bits d i vs) m g e = no_fault e
+carried_out h (write_words d i vs) m g e = no_fault e
+carried_out h (random_read ws ds) m g e = refl
+carried_out h (register ws ds) m g e = refl
+carried_out h monitor m g e = refl
+carried_out h (random_bits ss) m g e = no_fault e
+carried_out h (random_write ws ds) m g e = no_fault e
 
 judged : (code : Code) (h : Header) (m : Meaning) (g : Option Listed) (r : Result Asked Fault) → is_some (answered code h m g r).fault_met ≡ true → (answered code h m g r).writes ≡ []
-judged code h m g (Ok a) e = carried h a m g e
+judged code h m g (Ok a) e = carried_out h a m g e
 judged code h m g (Err f) e = refl
 
 took : (code : Code) (m : Meaning) (flag : Bool) (g : Option Listed) (xs : List ℕ) (r : Result Header Fault) → is_some (taken_up code m flag g xs r).fault_met ≡ true → (taken_up code m flag g xs r).writes ≡ []

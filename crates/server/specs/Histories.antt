@@ -1,14 +1,20 @@
 -- A history of calls to a server: what each call shows and leaves, and what a list of calls comes to.
-use Rattle.std.specs.Prelude.{◌≡◌, ℕ, Bool, true, List, [], ◌∷◌, ◌++◌, length, Some, None, Ok, Err, Option, Result}
+use Rattle.std.specs.Prelude.{◌≡◌, ℕ, ◌<◌, ◌≤◌, Bool, true, List, [], ◌∷◌, ◌++◌, length, Some, None, Ok, Err, Option, Result}
 use Rattle.std.proofs.lemmas.List.Edits.{sets}
 use Rattle.device.specs.declared.types.Device.{Device}
 use Rattle.memory.specs.declared.refusal.Refusal.{Refusal}
-use Rattle.memory.specs.Meaning.{Meaning, write_answer, written as after_write}
+use Rattle.memory.specs.Meaning.{Meaning, write_answer, written as after_write, extent_limit}
 use Rattle.memory.specs.Leaving.{Write}
 use Rattle.wire.specs.declared.code.Code.{Code}
 use Rattle.frame.specs.declared.fault.Fault.{Fault}
-use Rattle.server.specs.Registered.{Listed}
+use Rattle.server.specs.declared.server.Server.{Server}
+use Rattle.server.specs.declared.settings.Settings.{Settings}
+use Rattle.server.specs.declared.registration.Registration.{Registration}
+use Rattle.server.specs.Registered.{Listed, registered}
 use Rattle.server.specs.Serves.{Served, served}
+use Rattle.device.specs.Devices.{kind_of}
+use Rattle.device.specs.declared.types.Kind.TheVariants.{Bit}
+use Rattle.server.specs.declared.answer.Answer.{Answer}
 
 -- a call
 pub data Move : Type 0 where
@@ -30,36 +36,67 @@ pub data Shown : Type 0 where
   -- the write flag then, and none if the call was declined
   window : Option Bool → Shown
 
--- the memory's meaning, the write flag, what the flag was before the window if one is open, and what is registered
+-- what neither a frame nor a setting reads or changes: the write flag before the calibration window, if one is open
+pub record Aside : Type 0 where
+  pub before : Option Bool
+
+-- the memory's meaning, the write flag, what is registered, and what frames and settings leave aside
 pub record State : Type 0 where
   pub meaning : Meaning
   pub flag : Bool
-  pub before : Option Bool
   pub registered : Option Listed
+  pub aside : Aside
 
-abbrev pub state : Meaning → Bool → Option Bool → Option Listed → State
-state m flag b g = record { meaning = m; flag = flag; before = b; registered = g }
+-- no window is open
+abbrev pub no_window : Aside
+no_window = record { before = None }
+
+-- the state of a memory, settings and a registration, by what the memory means and what the registration lists, with what stands aside
+abbrev pub state_at : {A R : Type 0} → (A → Meaning) → (R → Option Listed) → A → Settings → R → Aside → State
+state_at means lists memory settings registration aside =
+    record { meaning = means memory; flag = settings.write_flag; registered = lists registration; aside = aside }
+
+-- the state of a server while no window is open
+abbrev pub state_of : {A : Type 0} → (A → Meaning) → Server A → State
+state_of means server = state_at means registered server.memory server.settings server.registration no_window
+
+-- a state with another meaning of the memory
+abbrev pub with_meaning : Meaning → State → State
+with_meaning m s = record { meaning = m; flag = s.flag; registered = s.registered; aside = s.aside }
+
+-- a state with this write flag, and with this flag before the window, if one is open
+abbrev pub with_flag : Bool → Option Bool → State → State
+with_flag flag before s = record { meaning = s.meaning; flag = flag; registered = s.registered; aside = record { before = before } }
+
+-- the state of a memory, settings and a registration within a window that was opened over these settings
+abbrev pub in_window_of : {A : Type 0} → (A → Meaning) → A → Settings → Registration → State
+in_window_of means memory settings registration =
+    with_flag true (Some settings.write_flag) (state_at means registered memory settings registration no_window)
 
 -- what taking a frame comes to
 abbrev pub at_frame : State → Code → List ℕ → List ℕ → Served
 at_frame s code xs space = served code xs (length space) s.meaning s.flag s.registered
 
+-- a state once a frame came to this
+abbrev pub after_frame : Served → State → State
+after_frame t s = record { meaning = t.meaning; flag = s.flag; registered = t.registered; aside = s.aside }
+
 -- an opening turns the flag on and remembers what it was; it is declined while a window is open
-abbrev pub opened : Option Bool → State → State
-opened None s = state s.meaning true (Some s.flag) s.registered
-opened (Some was) s = s
+abbrev pub once_opened : Option Bool → State → State
+once_opened None s = with_flag true (Some s.flag) s
+once_opened (Some was) s = s
 
 -- an ending puts the flag back; it is declined while no window is open
-abbrev pub ended : Option Bool → State → State
-ended None s = s
-ended (Some was) s = state s.meaning was None s.registered
+abbrev pub once_ended : Option Bool → State → State
+once_ended None s = s
+once_ended (Some was) s = with_flag was None s
 
 -- what a call leaves
 abbrev pub step : State → Move → State
-step s (frame code xs space) = state (at_frame s code xs space).meaning s.flag s.before (at_frame s code xs space).registered
-step s (setting d n v) = state (after_write (write_answer s.meaning d n v) s.meaning d n v) s.flag s.before s.registered
-step s opening = opened s.before s
-step s ending = ended s.before s
+step s (frame code xs space) = after_frame (at_frame s code xs space) s
+step s (setting d n v) = with_meaning (after_write (write_answer s.meaning d n v) s.meaning d n v) s
+step s opening = once_opened s.aside.before s
+step s ending = once_ended s.aside.before s
 
 -- a write that was carried out, and none that was refused
 abbrev pub only_ok : Result (Unit {0}) Refusal → Write → List Write
@@ -75,12 +112,16 @@ on_opening (Some was) = None
 abbrev pub answer : Served → List ℕ → Shown
 answer t space = taken t.taken (length t.bytes) t.fault_met (sets space 0 t.bytes)
 
+-- what an answer of the server tells, with the reply space as it is then
+abbrev pub shown_by : Answer → List ℕ → Shown
+shown_by a space = taken a.taken a.length a.fault space
+
 -- what a call shows
 abbrev pub outcome : State → Move → Shown
 outcome s (frame code xs space) = answer (at_frame s code xs space) space
 outcome s (setting d n v) = written (write_answer s.meaning d n v)
-outcome s opening = window (on_opening s.before)
-outcome s ending = window s.before
+outcome s opening = window (on_opening s.aside.before)
+outcome s ending = window s.aside.before
 
 -- the point writes that a call makes, in their order: none where it is refused, and none of an opening or an ending
 abbrev pub made_by : State → Move → List Write
@@ -106,21 +147,24 @@ made_through s (m ∷ ms) = made_by s m ++ made_through (step s m) ms
 
 -- the end of the list ends a window too
 abbrev pub closed : State → State
-closed s = ended s.before s
+closed s = once_ended s.aside.before s
 
 abbrev pub final : State → List Move → State
 final s ms = closed (after s ms)
 
--- from the state s the calls ms showed os and led to the state s', where a window may be open
+-- a memory's meaning as every memory has it: no extent passes its limit, and a bit point holds 0 or 1
+pub record Lawful (m : Meaning) : Type 0 where
+  pub small : (d : Device) → m.extent d ≤ extent_limit d
+  pub narrow : (d : Device) (n : ℕ) → kind_of d ≡ Bit → m.value d n < 2
+
+-- a history: from the state s the calls ms showed os and led to the state s', where a window may be open
 pub record Reached (s : State) (ms : List Move) (os : List Shown) (s' : State) : Type 0 where
+  pub lawful : Lawful s.meaning
   pub showed : os ≡ shown s ms
   pub led : s' ≡ after s ms
 
--- from the state s the calls ms showed os, and once all windows were ended they left s'
-pub record Ran (s : State) (ms : List Move) (os : List Shown) (s' : State) : Type 0 where
+-- the same where the end of the calls ends a window too, and leaves z
+pub record Ran (s : State) (ms : List Move) (os : List Shown) (z : State) : Type 0 where
+  pub lawful : Lawful s.meaning
   pub showed : os ≡ shown s ms
-  pub left : s' ≡ final s ms
-
--- a call that showed o carries any history on that led to s
-abbrev pub CarriesOn : State → Move → Shown → State → Type 0
-CarriesOn s m o s' = (s₀ : State) (ms : List Move) (os : List Shown) → Reached s₀ ms os s → Reached s₀ (ms ++ m ∷ []) (os ++ o ∷ []) s'
+  pub left : z ≡ final s ms

@@ -5,5 +5,11 @@ pub mod Registered
 pub mod Answers
 pub mod Serves
 pub mod Says
+pub mod Writings
 pub mod Laws
 pub mod Histories
+pub mod Asks
+pub mod Taking
+pub mod Latest
+pub mod Pairs
+pub mod Kept

@@ -53,13 +53,13 @@ writes (random_bits vs) = true
 writes (random_write ws ds) = true
 
 -- what comes of a verdict: a request that passed is carried out, any other is refused
-abbrev pub carried : Meaning → Option Listed → Result Asked Cause → Done
-carried m g (Ok a) = done a m g
-carried m g (Err c) = unchanged (refused c) m g
+abbrev pub by_verdict : Meaning → Option Listed → Result Asked Cause → Done
+by_verdict m g (Ok a) = done a m g
+by_verdict m g (Err c) = unchanged (refused c) m g
 
 -- what comes of a request, in no code: a write while the flag is off is refused first, then its field values are judged, then it is carried out
 abbrev pub reaction : Asked → Meaning → Bool → Option Listed → Done
-reaction a m flag g = cond (writes a && not flag) (unchanged (refused WriteOff) m g) (carried m g (verdict m a))
+reaction a m flag g = cond (writes a && not flag) (unchanged (refused WriteOff) m g) (by_verdict m g (verdict m a))
 
 -- the frame of a request, around its writing in a code
 abbrev pub frame_of : Code → Front → Asked → List ℕ
@@ -87,7 +87,7 @@ pub record Reacted (code : Code) (f : Front) (a : Asked) (d : Done) (r : Answer)
   pub whole : r.taken ≡ length (frame_of code f a)
   pub long : r.length ≡ length (answer_bytes code (head_of code f a) d.answer)
   pub reply : take r.length after ≡ answer_bytes code (head_of code f a) d.answer
-  pub told : cause_met r.fault ≡ cause_of d.answer
+  pub cause : cause_met r.fault ≡ cause_of d.answer
   pub leaves : m ≡ d.meaning
   pub lists : g ≡ d.registered
 

@@ -14,7 +14,7 @@ use Rattle.request.specs.Readings.{request_in}
 use Rattle.server.specs.declared.answer.Answer.{Answer}
 use Rattle.server.specs.declared.points.Width.TheVariants.{Word, Double}
 use Rattle.server.specs.Points.{words, bits, values_of}
-use Rattle.server.specs.Writes.{stored, in_row, as_point, as_word, as_double, as_words, each}
+use Rattle.server.specs.Writes.{after_writes, in_row, as_point, as_word, as_double, as_words, each}
 use Rattle.server.specs.Registered.{Listed}
 use Rattle.server.specs.Answers.{Answered, accepted, refused, no_data, in_bits, in_words, in_both, answer_bytes}
 
@@ -40,7 +40,7 @@ unchanged a m g = record { answer = a; writes = []; meaning = m; registered = g 
 
 -- what accepted writes leave
 abbrev pub wrote : List Write → Meaning → Option Listed → Done
-wrote ws m g = record { answer = accepted no_data; writes = ws; meaning = stored m ws; registered = g }
+wrote ws m g = record { answer = accepted no_data; writes = ws; meaning = after_writes m ws; registered = g }
 
 -- carrying a request out, in no code
 abbrev pub done : Asked → Meaning → Option Listed → Done

@@ -18,8 +18,8 @@ puts V [] = V
 puts V (w ∷ ws) = puts (put V w.0 w.1 w.2) ws
 
 -- the meaning then: nothing else moves
-abbrev pub stored : Meaning → List Write → Meaning
-stored m ws = record { extent = m.extent; value = puts m.value ws; opened = m.opened }
+abbrev pub after_writes : Meaning → List Write → Meaning
+after_writes m ws = record { extent = m.extent; value = puts m.value ws; opened = m.opened }
 
 -- a value for each point, one point behind the other
 abbrev pub in_row : Device → ℕ → List ℕ → List Write

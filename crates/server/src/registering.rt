@@ -29,7 +29,9 @@ pub trait Registering {
     // Takes up a list that was read in place of what was registered: so many accesses of a word, and then of a double word.
     fn replace<C: WireCode>(&mut self, list: &[u8], words: usize, doubles: usize)
         requires few { words + doubles ≤ 192 }
-        requires whole { (length (list_in (read_access C.which) words list.now) ≡ words) × (length (list_in (read_access C.which) doubles (drop (words * (4 * per_byte C.which)) list.now)) ≡ doubles) }
-        ensures lists { lists self.new ≡ Some (list_in (read_access C.which) words list.now, list_in (read_access C.which) doubles (drop (words * (4 * per_byte C.which)) list.now)) }
+        requires whole { let behind = drop (words * (4 * per_byte C.which)) list.now in
+            (length (list_in (read_access C.which) words list.now) ≡ words) × (length (list_in (read_access C.which) doubles behind) ≡ doubles) }
+        ensures lists { let behind = drop (words * (4 * per_byte C.which)) list.now in
+            lists self.new ≡ Some (list_in (read_access C.which) words list.now, list_in (read_access C.which) doubles behind) }
         ensures good { good self.new };
 }

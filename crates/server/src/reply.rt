@@ -44,7 +44,7 @@ impl Reply<'_> {
 
     // The error reply.
     pub(crate) fn refuse<C: WireCode>(&mut self, fault: Fault) -> Answer
-        ensures tells { Tells self.old.header.size (answer_bytes C.WireCode.which self.old.header (refused fault.cause)) (Some fault) result self.old.space.now self.new.space.now }
+        ensures tells { Tells self.old.header.size (answer_bytes C.which self.old.header (refused fault.cause)) (Some fault) result self.old.space.now self.new.space.now }
         ensures name { self.new.space.ghost_name ≡ self.old.space.ghost_name }
         ensures fits { result.length ≤ length self.old.space.now }
     {
@@ -64,7 +64,7 @@ impl Reply<'_> {
         points: usize,
     ) -> Answer
         requires { (points ≤ 960) × (number < 2 ^ 24) }
-        ensures tells { Replies C.WireCode.which self.old.header (accepted (in_words (words (M.means memory.now).value device number points))) result self.old.space.now self.new.space.now }
+        ensures tells { Replies C.which self.old.header (accepted (in_words (words (M.means memory.now).value device number points))) result self.old.space.now self.new.space.now }
         ensures name { self.new.space.ghost_name ≡ self.old.space.ghost_name }
         ensures fits { result.length ≤ length self.old.space.now }
     {
@@ -83,7 +83,7 @@ impl Reply<'_> {
         points: usize,
     ) -> Answer
         requires { (points ≤ 3584) × (number < 2 ^ 24) × (kind_of device ≡ Bit) }
-        ensures tells { Replies C.WireCode.which self.old.header (accepted (in_bits (bits (M.means memory.now).value device number points))) result self.old.space.now self.new.space.now }
+        ensures tells { Replies C.which self.old.header (accepted (in_bits (bits (M.means memory.now).value device number points))) result self.old.space.now self.new.space.now }
         ensures name { self.new.space.ghost_name ≡ self.old.space.ghost_name }
         ensures fits { result.length ≤ length self.old.space.now }
     {
@@ -95,7 +95,7 @@ impl Reply<'_> {
 
     // The reply to a request that was carried out and has no data to show.
     pub(crate) fn accept<C: WireCode>(&mut self) -> Answer
-        ensures tells { Replies C.WireCode.which self.old.header (accepted no_data) result self.old.space.now self.new.space.now }
+        ensures tells { Replies C.which self.old.header (accepted no_data) result self.old.space.now self.new.space.now }
         ensures name { self.new.space.ghost_name ≡ self.old.space.ghost_name }
         ensures fits { result.length ≤ length self.old.space.now }
     {
@@ -112,11 +112,11 @@ impl Reply<'_> {
         doubles: usize,
     ) -> Answer
         requires few { words + doubles ≤ 192 }
-        requires whole { let behind = drop (words * (4 * per_byte C.WireCode.which)) list.now in
-            (length (list_in (access_in C.WireCode.which) words list.now) ≡ words) × (length (list_in (access_in C.WireCode.which) doubles behind) ≡ doubles) }
-        ensures tells { let behind = drop (words * (4 * per_byte C.WireCode.which)) list.now in
-            let listed : Listed = (list_in (access_in C.WireCode.which) words list.now, list_in (access_in C.WireCode.which) doubles behind) in
-            Replies C.WireCode.which self.old.header (shown_list (M.means memory.now) listed) result self.old.space.now self.new.space.now }
+        requires whole { let behind = drop (words * (4 * per_byte C.which)) list.now in
+            (length (list_in (access_in C.which) words list.now) ≡ words) × (length (list_in (access_in C.which) doubles behind) ≡ doubles) }
+        ensures tells { let behind = drop (words * (4 * per_byte C.which)) list.now in
+            let listed : Listed = (list_in (access_in C.which) words list.now, list_in (access_in C.which) doubles behind) in
+            Replies C.which self.old.header (shown_list (M.means memory.now) listed) result self.old.space.now self.new.space.now }
         ensures name { self.new.space.ghost_name ≡ self.old.space.ghost_name }
         ensures fits { result.length ≤ length self.old.space.now }
     {
@@ -147,7 +147,7 @@ impl Reply<'_> {
         requires few { words + doubles ≤ 192 }
         requires many { (length (words_of (R.lists registration.now)) ≡ words) × (length (doubles_of (R.lists registration.now)) ≡ doubles) }
         ensures tells { let listed : Listed = (words_of (R.lists registration.now), doubles_of (R.lists registration.now)) in
-            Replies C.WireCode.which self.old.header (shown_list (M.means memory.now) listed) result self.old.space.now self.new.space.now }
+            Replies C.which self.old.header (shown_list (M.means memory.now) listed) result self.old.space.now self.new.space.now }
         ensures name { self.new.space.ghost_name ≡ self.old.space.ghost_name }
         ensures fits { result.length ≤ length self.old.space.now }
     {
@@ -180,7 +180,7 @@ impl Reply<'_> {
         memory: &M,
         registration: &R,
     ) -> Answer
-        ensures tells { Replies C.WireCode.which self.old.header (monitored (M.means memory.now) (R.lists registration.now)) result self.old.space.now self.new.space.now }
+        ensures tells { Replies C.which self.old.header (monitored (M.means memory.now) (R.lists registration.now)) result self.old.space.now self.new.space.now }
         ensures name { self.new.space.ghost_name ≡ self.old.space.ghost_name }
         ensures fits { result.length ≤ length self.old.space.now }
     {

@@ -1,12 +1,13 @@
 // Takes one frame and carries its request out.
-ghost use Rattle.std.specs.Prelude.{◌≡◌, ◌<◌, ◌≤◌, Bool, true, length, is_some, IfOk, Some, Ok, Option};
+ghost use Rattle.std.specs.Prelude.{◌≡◌, ◌<◌, ◌≤◌, true, length, is_some, IfOk, Ok};
 ghost use Rattle.memory.specs.Leaving.{Leads};
 ghost use Rattle.server.specs.Points.{words};
 ghost use Rattle.request.specs.Laws.{Bounded, Passed};
 ghost use Rattle.request.specs.Readings.{held, said, Whole, request_in};
-ghost use Rattle.server.specs.Histories.{frame as taking, taken, state, CarriesOn};
-ghost use Rattle.server.specs.Laws.{FaultsMoveNothing, ReadsMoveNothing, SpaceKept};
-ghost use Rattle.server.specs.Says.{AlikeAnswer};
+ghost use Rattle.server.specs.Histories.{frame as taking, Aside, no_window, state_at, made_by, shown_by};
+ghost use Rattle.server.specs.Kept.{CarriesOn};
+ghost use Rattle.server.specs.Laws.{FaultsMoveNothing, ReadsMoveNothing};
+ghost use Rattle.server.specs.Taking.{IsServed};
 ghost use Rattle.server.specs.Serves.{Came, answered, served};
 
 use crate::answer::Answer;
@@ -27,12 +28,12 @@ fn carry_out<C: WireCode, M: WritableMemory, R: Registering>(
     memory: &mut M,
     registration: &mut R,
 ) -> Answer
-    requires whole { IfOk (held (Ok request)) (Whole C.WireCode.which) }
+    requires whole { IfOk (held (Ok request)) (Whole C.which) }
     requires bounded { IfOk (held (Ok request)) (Bounded (M.means memory.old)) }
-    requires passed { Passed (M.means memory.old) (said C.WireCode.which (Ok request)) }
-    ensures came { let what = answered C.WireCode.which reply.old.header (M.means memory.old) (R.lists registration.old) (said C.WireCode.which (Ok request.entry)) in
+    requires passed { Passed (M.means memory.old) (said C.which (Ok request)) }
+    ensures came { let what = answered C.which reply.old.header (M.means memory.old) (R.lists registration.old) (said C.which (Ok request.entry)) in
         Came what result reply.old.space.now reply.new.space.now (M.means memory.new) (R.lists registration.new) }
-    ensures left { let what = answered C.WireCode.which reply.old.header (M.means memory.old) (R.lists registration.old) (said C.WireCode.which (Ok request.entry)) in
+    ensures left { let what = answered C.which reply.old.header (M.means memory.old) (R.lists registration.old) (said C.which (Ok request.entry)) in
         Leads M.leaves memory.old what.writes memory.new }
     ensures good { R.good registration.old → R.good registration.new }
     ensures declined { is_some result.fault ≡ true → registration.new ≡ registration.old }
@@ -109,12 +110,12 @@ fn answer_request<C: WireCode, M: WritableMemory, R: Registering>(
     memory: &mut M,
     registration: &mut R,
 ) -> Answer
-    requires whole { IfOk (held request) (Whole C.WireCode.which) }
+    requires whole { IfOk (held request) (Whole C.which) }
     requires bounded { IfOk (held request) (Bounded (M.means memory.old)) }
-    requires passed { Passed (M.means memory.old) (said C.WireCode.which request) }
-    ensures came { let what = answered C.WireCode.which reply.old.header (M.means memory.old) (R.lists registration.old) (said C.WireCode.which request.entry) in
+    requires passed { Passed (M.means memory.old) (said C.which request) }
+    ensures came { let what = answered C.which reply.old.header (M.means memory.old) (R.lists registration.old) (said C.which request.entry) in
         Came what result reply.old.space.now reply.new.space.now (M.means memory.new) (R.lists registration.new) }
-    ensures left { let what = answered C.WireCode.which reply.old.header (M.means memory.old) (R.lists registration.old) (said C.WireCode.which request.entry) in
+    ensures left { let what = answered C.which reply.old.header (M.means memory.old) (R.lists registration.old) (said C.which request.entry) in
         Leads M.leaves memory.old what.writes memory.new }
     ensures good { R.good registration.old → R.good registration.new }
     ensures declined { is_some result.fault ≡ true → registration.new ≡ registration.old }
@@ -136,11 +137,11 @@ fn answer_frame<C: WireCode, M: WritableMemory, R: Registering>(
     registration: &mut R,
 ) -> Answer
     requires { reply.old.header.data_at ≤ length frame.now }
-    ensures came { let asked = request_in C.WireCode.which (M.means memory.old) settings.now.write_flag reply.old.header frame.now in
-        let what = answered C.WireCode.which reply.old.header (M.means memory.old) (R.lists registration.old) asked in
+    ensures came { let a = request_in C.which (M.means memory.old) settings.now.write_flag reply.old.header frame.now in
+        let what = answered C.which reply.old.header (M.means memory.old) (R.lists registration.old) a in
         Came what result reply.old.space.now reply.new.space.now (M.means memory.new) (R.lists registration.new) }
-    ensures left { let asked = request_in C.WireCode.which (M.means memory.old) settings.now.write_flag reply.old.header frame.now in
-        let what = answered C.WireCode.which reply.old.header (M.means memory.old) (R.lists registration.old) asked in
+    ensures left { let asked = request_in C.which (M.means memory.old) settings.now.write_flag reply.old.header frame.now in
+        let what = answered C.which reply.old.header (M.means memory.old) (R.lists registration.old) asked in
         Leads M.leaves memory.old what.writes memory.new }
     ensures good { R.good registration.old → R.good registration.new }
     ensures declined { is_some result.fault ≡ true → registration.new ≡ registration.old }
@@ -159,9 +160,9 @@ fn serve<C: WireCode, M: WritableMemory, R: Registering>(
     settings: &Settings,
     registration: &mut R,
 ) -> Answer
-    ensures came { let what = served C.WireCode.which frame.now (length reply.old) (M.means memory.old) settings.now.write_flag (R.lists registration.old) in
+    ensures came { let what = served C.which frame.now (length reply.old) (M.means memory.old) settings.now.write_flag (R.lists registration.old) in
         Came what result reply.old reply.new (M.means memory.new) (R.lists registration.new) }
-    ensures left { let what = served C.WireCode.which frame.now (length reply.old) (M.means memory.old) settings.now.write_flag (R.lists registration.old) in
+    ensures left { let what = served C.which frame.now (length reply.old) (M.means memory.old) settings.now.write_flag (R.lists registration.old) in
         Leads M.leaves memory.old what.writes memory.new }
     ensures good { R.good registration.old → R.good registration.new }
     ensures declined { is_some result.fault ≡ true → registration.new ≡ registration.old }
@@ -199,20 +200,19 @@ pub fn take_frame<M: WritableMemory, R: Registering>(
     settings: &Settings,
     registration: &mut R,
 ) -> Answer
-    ensures came { let what = served code frame.now (length reply.old) (M.means memory.old) settings.now.write_flag (R.lists registration.old) in
-        Came what result reply.old reply.new (M.means memory.new) (R.lists registration.new) }
-    ensures left { let what = served code frame.now (length reply.old) (M.means memory.old) settings.now.write_flag (R.lists registration.old) in
-        Leads M.leaves memory.old what.writes memory.new }
+    ensures served { let s = state_at M.means R.lists memory.old settings.now registration.old no_window in
+        let s' = state_at M.means R.lists memory.new settings.now registration.new no_window in
+        IsServed s code frame.now result reply.old reply.new s' }
+    ensures left { let s = state_at M.means R.lists memory.old settings.now registration.old no_window in
+        Leads M.leaves memory.old (made_by s (taking code frame.now reply.old)) memory.new }
     ensures good { R.good registration.old → R.good registration.new }
     ensures fits { (result.taken ≤ length frame.now) × (result.length ≤ length reply.old) }
     ensures faults { FaultsMoveNothing result memory.old registration.old memory.new registration.new }
     ensures reads { ReadsMoveNothing code frame.now (length reply.old) memory.old memory.new }
-    ensures space { SpaceKept result reply.old reply.new }
-    ensures alike { AlikeAnswer code frame.now (M.means memory.old) settings.now.write_flag (R.lists registration.old) result reply.old reply.new (M.means memory.new) (R.lists registration.new) }
-    ensures carries { let before = λ (b : Option Bool). state (M.means memory.old) settings.now.write_flag b (R.lists registration.old) in
-        let behind = λ (b : Option Bool). state (M.means memory.new) settings.now.write_flag b (R.lists registration.new) in
-        let outcome = taken result.taken result.length result.fault reply.new in
-        (b : Option Bool) → CarriesOn (before b) (taking code frame.now reply.old) outcome (behind b) }
+    ensures carries { (aside : Aside) →
+        let s = state_at M.means R.lists memory.old settings.now registration.old aside in
+        let s' = state_at M.means R.lists memory.new settings.now registration.new aside in
+        CarriesOn s (taking code frame.now reply.old) (shown_by result reply.new) s' }
 {
     match code {
         Code::Binary => serve::<Binary, M, R>(frame, reply, memory, settings, registration),

@@ -1,9 +1,9 @@
 // The bench gives a point a value, whatever the write flag is.
-ghost use Rattle.std.specs.Prelude.{◌≡◌, Bool, Option};
+ghost use Rattle.std.specs.Prelude.{◌≡◌};
 ghost use Rattle.memory.specs.Meaning.{write_answer, written as after_write};
 ghost use Rattle.memory.specs.Leaving.{LeftBy};
-ghost use Rattle.server.specs.Registered.{Listed};
-ghost use Rattle.server.specs.Histories.{setting, written, state, CarriesOn};
+ghost use Rattle.server.specs.Histories.{setting, written, State, with_meaning};
+ghost use Rattle.server.specs.Kept.{CarriesOn};
 
 use device::Device;
 use memory::{ReadableMemory, Refusal, WritableMemory};
@@ -33,8 +33,8 @@ pub fn set_point<M: WritableMemory>(
     ensures answer { result ≡ write_answer (M.means memory.old) device number value }
     ensures meaning { M.means memory.new ≡ after_write result (M.means memory.old) device number value }
     ensures left { LeftBy M.leaves result memory.old device number value memory.new }
-    ensures carries { (flag : Bool) (b : Option Bool) (g : Option Listed) →
-        CarriesOn (state (M.means memory.old) flag b g) (setting device number value) (written result) (state (M.means memory.new) flag b g) }
+    ensures carries { (s : State) →
+        CarriesOn (with_meaning (M.means memory.old) s) (setting device number value) (written result) (with_meaning (M.means memory.new) s) }
 {
     give(memory, device, number, value)
 }

@@ -3,7 +3,7 @@ ghost use Rattle.std.specs.Prelude.{◌≡◌, ◌+◌, ◌-◌, ◌*◌, ◌^�
 ghost use Rattle.std.proofs.lemmas.List.Edits.{sets};
 ghost use Rattle.device.specs.Devices.{kind_of};
 ghost use Rattle.device.specs.declared.types.Kind.TheVariants.{Bit};
-ghost use Rattle.wire.specs.Numbers.{per_byte};
+ghost use Rattle.wire.specs.Numbers.{per_byte, encode};
 ghost use Rattle.wire.specs.Series.{values_bytes};
 ghost use Rattle.wire.specs.Points.{bits_bytes, bits_size};
 ghost use Rattle.request.specs.Entries.{access_in};
@@ -27,8 +27,8 @@ pub(crate) fn write_words<C: WireCode, M: ReadableMemory>(
     number: u32,
     count: usize,
 )
-    requires { (count ≤ 960) × (number < 2 ^ 24) × (at + count * (2 * per_byte C.WireCode.which) ≤ length out.old) }
-    ensures { out.new ≡ sets out.old at (values_bytes C.WireCode.which 2 (words (M.means memory.now).value device number count)) }
+    requires { (count ≤ 960) × (number < 2 ^ 24) × (at + count * (2 * per_byte C.which) ≤ length out.old) }
+    ensures { out.new ≡ sets out.old at (values_bytes C.which 2 (words (M.means memory.now).value device number count)) }
 {
     let step = word_points(device);
     let mut place = at;
@@ -48,8 +48,8 @@ pub(crate) fn write_bits<C: WireCode, M: ReadableMemory>(
     number: u32,
     count: usize,
 )
-    requires { (count ≤ 3584) × (number < 2 ^ 24) × (kind_of device ≡ Bit) × (at + bits_size C.WireCode.which count ≤ length out.old) }
-    ensures { out.new ≡ sets out.old at (bits_bytes C.WireCode.which (bits (M.means memory.now).value device number count)) }
+    requires { (count ≤ 3584) × (number < 2 ^ 24) × (kind_of device ≡ Bit) × (at + bits_size C.which count ≤ length out.old) }
+    ensures { out.new ≡ sets out.old at (bits_bytes C.which (bits (M.means memory.now).value device number count)) }
 {
     let mut place = at;
     // By index, since points are asked for one at a time by their numbers: there is no list to go over.
@@ -67,6 +67,15 @@ pub(crate) fn write_bits<C: WireCode, M: ReadableMemory>(
     }
 }
 
+// Writes a value of this width at `at`, as one number, and says how many wire bytes it took.
+fn write_sized<C: WireCode>(out: &mut [u8], at: usize, value: u32, width: Width) -> usize
+    requires { at + bytes_of width * per_byte C.which ≤ length out.old }
+    ensures used { result ≡ bytes_of width * per_byte C.which }
+    ensures written { out.new ≡ sets out.old at (encode C.which (bytes_of width) value) }
+{
+    C::write_number(out, at, width.bytes(), value)
+}
+
 // Writes the values of so many accesses of a registration from an index on, and says where they end.
 pub(crate) fn write_kept<C: WireCode, M: ReadableMemory, R: Registering>(
     out: &mut [u8],
@@ -77,17 +86,17 @@ pub(crate) fn write_kept<C: WireCode, M: ReadableMemory, R: Registering>(
     count: usize,
     width: Width,
 ) -> usize
-    requires { (count ≤ 192) × (from + count ≤ length (all_of (R.lists registration.now))) × (from < 2 ^ 32) × (at + count * (bytes_of width * per_byte C.WireCode.which) ≤ length out.old) }
-    ensures end { result ≡ at + count * (bytes_of width * per_byte C.WireCode.which) }
+    requires { (count ≤ 192) × (from + count ≤ length (all_of (R.lists registration.now))) × (from < 2 ^ 32) × (at + count * (bytes_of width * per_byte C.which) ≤ length out.old) }
+    ensures end { result ≡ at + count * (bytes_of width * per_byte C.which) }
     ensures written { let values = values_of width (M.means memory.now).value (take count (drop from (all_of (R.lists registration.now)))) in
-        out.new ≡ sets out.old at (values_bytes C.WireCode.which (bytes_of width) values) }
+        out.new ≡ sets out.old at (values_bytes C.which (bytes_of width) values) }
 {
     let mut place = at;
     // By index, since a registration is asked for one access at a time: there is no list to go over.
     for i in 0..count {
         let access = registration.access(from + i);
         let value = access_value(memory, access.device, access.number, width);
-        place += C::write_number(out, place, width.bytes(), value);
+        place += write_sized::<C>(out, place, value, width);
     }
     place
 }
@@ -102,10 +111,10 @@ pub(crate) fn write_listed<C: WireCode, M: ReadableMemory>(
     count: usize,
     width: Width,
 ) -> usize
-    requires { (count ≤ 192) × (at + count * (bytes_of width * per_byte C.WireCode.which) ≤ length out.old) }
-    ensures end { result ≡ at + length (list_in (access_in C.WireCode.which) count (drop from list.now)) * (bytes_of width * per_byte C.WireCode.which) }
-    ensures written { let values = values_of width (M.means memory.now).value (list_in (access_in C.WireCode.which) count (drop from list.now)) in
-        out.new ≡ sets out.old at (values_bytes C.WireCode.which (bytes_of width) values) }
+    requires { (count ≤ 192) × (at + count * (bytes_of width * per_byte C.which) ≤ length out.old) }
+    ensures end { result ≡ at + length (list_in (access_in C.which) count (drop from list.now)) * (bytes_of width * per_byte C.which) }
+    ensures written { let values = values_of width (M.means memory.now).value (list_in (access_in C.which) count (drop from list.now)) in
+        out.new ≡ sets out.old at (values_bytes C.which (bytes_of width) values) }
 {
     let mut place = at;
     let mut next = from;
@@ -114,7 +123,7 @@ pub(crate) fn write_listed<C: WireCode, M: ReadableMemory>(
             return place;
         };
         let value = access_value(memory, device, number, width);
-        place += C::write_number(out, place, width.bytes(), value);
+        place += write_sized::<C>(out, place, value, width);
         next += used;
     }
     place

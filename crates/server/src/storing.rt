@@ -67,7 +67,7 @@ pub(crate) fn put_bits<C: WireCode, M: WritableMemory>(
     bytes: &[u8],
 )
     requires { (count ≤ 3584) × (number < 2 ^ 24) }
-    ensures { Leads (Tries M.means M.leaves) memory.old (in_row device number (bits_in C.WireCode.which bytes.now 0 count)) memory.new }
+    ensures { Leads (Tries M.means M.leaves) memory.old (in_row device number (bits_in C.which bytes.now 0 count)) memory.new }
 {
     // By index, since a point is given by its number and a bit by its place: there is no list of either.
     for i in 0..count {
@@ -86,8 +86,8 @@ pub(crate) fn put_words<C: WireCode, M: WritableMemory>(
     bytes: &[u8],
 )
     requires { (count ≤ 960) × (number < 2 ^ 24) }
-    ensures leads { Leads (Tries M.means M.leaves) memory.old (as_words device number (list_in (number_in C.WireCode.which 2) count bytes.now)) memory.new }
-    ensures small { Each (λ v. v < 65536) (list_in (number_in C.WireCode.which 2) count bytes.now) }
+    ensures leads { Leads (Tries M.means M.leaves) memory.old (as_words device number (list_in (number_in C.which 2) count bytes.now)) memory.new }
+    ensures small { Each (λ v. v < 65536) (list_in (number_in C.which 2) count bytes.now) }
 {
     let step = word_points(device);
     let mut place = 0;
@@ -126,8 +126,8 @@ pub(crate) fn put_settings<C: WireCode, M: WritableMemory>(
     count: usize,
     width: Width,
 )
-    ensures leads { Leads (Tries M.means M.leaves) memory.old (each (as_width width) (list_in (setting_in C.WireCode.which (bytes_of width)) count (drop from list.now))) memory.new }
-    ensures small { Each (λ s. s.1 < 256 ^ bytes_of width) (list_in (setting_in C.WireCode.which (bytes_of width)) count (drop from list.now)) }
+    ensures leads { Leads (Tries M.means M.leaves) memory.old (each (as_width width) (list_in (setting_in C.which (bytes_of width)) count (drop from list.now))) memory.new }
+    ensures small { Each (λ s. s.1 < 256 ^ bytes_of width) (list_in (setting_in C.which (bytes_of width)) count (drop from list.now)) }
 {
     let mut place = from;
     for _ in 0..count {
@@ -146,7 +146,7 @@ pub(crate) fn put_random_bits<C: WireCode, M: WritableMemory>(
     list: &[u8],
     count: usize,
 )
-    ensures { Leads (Tries M.means M.leaves) memory.old (each as_point (list_in (setting_in C.WireCode.which 1) count list.now)) memory.new }
+    ensures { Leads (Tries M.means M.leaves) memory.old (each as_point (list_in (setting_in C.which 1) count list.now)) memory.new }
 {
     put_settings::<C, M>(memory, list, 0, count, Width::Point);
 }
@@ -159,12 +159,12 @@ pub(crate) fn put_random<C: WireCode, M: WritableMemory>(
     doubles: usize,
 )
     requires { words ≤ 256 }
-    ensures leads { let behind = drop (words * (6 * per_byte C.WireCode.which)) list.now in
-        let of_words = each as_word (list_in (setting_in C.WireCode.which 2) words list.now) in
-        let of_doubles = each as_double (list_in (setting_in C.WireCode.which 4) doubles behind) in
+    ensures leads { let behind = drop (words * (6 * per_byte C.which)) list.now in
+        let of_words = each as_word (list_in (setting_in C.which 2) words list.now) in
+        let of_doubles = each as_double (list_in (setting_in C.which 4) doubles behind) in
         Leads (Tries M.means M.leaves) memory.old (of_words ++ of_doubles) memory.new }
-    ensures words { Each (λ s. s.1 < 256 ^ 2) (list_in (setting_in C.WireCode.which 2) words list.now) }
-    ensures doubles { Each (λ s. s.1 < 256 ^ 4) (list_in (setting_in C.WireCode.which 4) doubles (drop (words * (6 * per_byte C.WireCode.which)) list.now)) }
+    ensures words { Each (λ s. s.1 < 256 ^ 2) (list_in (setting_in C.which 2) words list.now) }
+    ensures doubles { Each (λ s. s.1 < 256 ^ 4) (list_in (setting_in C.which 4) doubles (drop (words * (6 * per_byte C.which)) list.now)) }
 {
     let behind = words * C::field_size(6);
     put_settings::<C, M>(memory, list, 0, words, Width::Word);

@@ -1,8 +1,7 @@
 // A calibration window: while it stands, write commands are carried out; however it ends, the write flag is what it was.
-ghost use Rattle.std.specs.Prelude.{◌≡◌, true, Some, None, Option};
-ghost use Rattle.memory.specs.Meaning.{Meaning};
-ghost use Rattle.server.specs.Registered.{Listed};
-ghost use Rattle.server.specs.Histories.{opening, ending, window, state, CarriesOn};
+ghost use Rattle.std.specs.Prelude.{◌≡◌, true, Some, None};
+ghost use Rattle.server.specs.Histories.{opening, ending, window, State, with_flag};
+ghost use Rattle.server.specs.Kept.{CarriesOn};
 
 use crate::settings::Settings;
 
@@ -18,7 +17,9 @@ impl<'a> Window<'a> {
         ensures was { result.was ≡ settings.old.write_flag }
         ensures lends { result.settings.ghost_name ≡ settings.entry.ghost_name }
         ensures on { result.settings.now.write_flag ≡ true }
-        ensures carries { (m : Meaning) (g : Option Listed) → CarriesOn (state m settings.old.write_flag None g) opening (window (Some result.settings.now.write_flag)) (state m result.settings.now.write_flag (Some result.was) g) }
+        ensures carries { (s : State) →
+            let on = result.settings.now.write_flag in
+            CarriesOn (with_flag settings.old.write_flag None s) opening (window (Some on)) (with_flag on (Some result.was) s) }
     {
         let was = settings.switch(true);
         Window { settings, was }
@@ -42,7 +43,9 @@ impl<'a> Window<'a> {
 impl Drop for Window<'_> {
     fn drop(self)
         ensures back { self.exit.0.now.write_flag ≡ self.entry.was }
-        ensures carries { (m : Meaning) (g : Option Listed) → CarriesOn (state m self.entry.settings.now.write_flag (Some self.entry.was) g) ending (window (Some self.exit.0.now.write_flag)) (state m self.exit.0.now.write_flag None g) }
+        ensures carries { (s : State) →
+            let back = self.exit.0.now.write_flag in
+            CarriesOn (with_flag self.entry.settings.now.write_flag (Some self.entry.was) s) ending (window (Some back)) (with_flag back None s) }
     {
         let Window { settings, was } = self;
         settings.write_flag = was;

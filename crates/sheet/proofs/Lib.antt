@@ -1,3 +1,4 @@
 mod Tests
 mod Turns
 mod Histories
+mod Sheets

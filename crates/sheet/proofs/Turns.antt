@@ -8,12 +8,13 @@ use Rattle.frame.specs.declared.fault.Fault.{Fault}
 use Rattle.server.specs.declared.answer.Answer.{Answer}
 use Rattle.server.specs.Registered.{Listed}
 use Rattle.server.specs.Serves.{served, Came}
-use Rattle.server.specs.Histories.{frame, State, state, step, made_by, made_through}
+use Rattle.server.specs.Histories.{Aside, frame, State, step, made_by, made_through}
+use Rattle.history.proofs.Onward.{state}
 use Rattle.server.proofs.Trying.{leads_on}
 use Rattle.sheet.specs.declared.run.Reason.{Reason}
 use Rattle.sheet.specs.declared.run.Reason.TheVariants.{Finished, Cancelled, Stopped}
 use Rattle.sheet.specs.Records.{record_bytes, tested_record}
-use Rattle.sheet.specs.Runs.{Run, Rest, ended_by, stop, calling, replied, carried, with_record, at_end, over_at, records}
+use Rattle.sheet.specs.Runs.{Run, Rest, ended_by, stop, calling, replied, frame_taken, with_record, at_end, over_at, records}
 use Rattle.sheet.proofs.Tests.{part}
 
 -- a run that is over before a record
@@ -65,26 +66,25 @@ refused code sheet cancel at count space s f e t =
     ∙ ap (λ r. r.end) (tests code sheet cancel at count space s e)
 
 -- what a frame's answer says goes on
-came : (code : Code) (bytes : List ℕ) (rest : Rest) (behind count : ℕ) (space space' : List ℕ) (m m' : Meaning) (flag : Bool) (b : Option Bool) (g g' : Option Listed) (a : Answer)
-    → flag ≡ true → Came (served code bytes (length space) m flag g) a space space' m' g'
-    → calling (frame code bytes space) (replied a.fault rest behind count space' (state m' true b g')) ≡ carried code bytes rest behind count space (state m true b g)
-came code bytes rest behind count space space' m m' flag b g g' a on c =
-    let c' = subst (λ f. Came (served code bytes (length space) m f g) a space space' m' g') on c in
-    λ i. calling (frame code bytes space) (replied (c'.tells.meets i) rest behind count (c'.tells.reply i) (state (c'.means i) true b (c'.lists i)))
+came : (code : Code) (bytes : List ℕ) (rest : Rest) (behind count : ℕ) (space space' : List ℕ) (m m' : Meaning) (flag : Bool) (b : Aside) (g g' : Option Listed) (a : Answer)
+    → Came (served code bytes (length space) m flag g) a space space' m' g'
+    → calling (frame code bytes space) (replied a.fault rest behind count space' (state m' flag b g')) ≡ frame_taken code bytes rest behind count space (state m flag b g)
+came code bytes rest behind count space space' m m' flag b g g' a c =
+    λ i. calling (frame code bytes space) (replied (c.tells.meets i) rest behind count (c.tells.reply i) (state (c.means i) flag b (c.lists i)))
 
 -- one turn, by what `take_frame` ensures: the frame is a call of the run, and then comes the rest of it
-pub turn : (code : Code) (sheet : List ℕ) (cancel at count size : ℕ) (space space' : List ℕ) (m m' : Meaning) (flag : Bool) (b : Option Bool) (g g' : Option Listed) (a : Answer) (q : Option Fault)
+pub turn : (code : Code) (sheet : List ℕ) (cancel at count size : ℕ) (space space' : List ℕ) (m m' : Meaning) (flag : Bool) (b : Aside) (g g' : Option Listed) (a : Answer) (q : Option Fault)
     → None ≡ over_at sheet at (cancel - count) → Ok size ≡ tested_record code (length space) sheet at
-    → flag ≡ true → Came (served code (take (at + 2 + size - (at + 2)) (drop (at + 2) sheet)) (length space) m flag g) a space space' m' g' → a.fault ≡ q
-    → calling (frame code (record_bytes sheet at size) space) (replied q (records code sheet (cancel - (count + 1))) (at + 2 + size) count space' (state m' true b g'))
-    ≡ records code sheet (cancel - count) at count space (state m true b g)
-turn code sheet cancel at count size space space' m m' flag b g g' a q e t on c is =
+    → Came (served code (take (at + 2 + size - (at + 2)) (drop (at + 2) sheet)) (length space) m flag g) a space space' m' g' → a.fault ≡ q
+    → calling (frame code (record_bytes sheet at size) space) (replied q (records code sheet (cancel - (count + 1))) (at + 2 + size) count space' (state m' flag b g'))
+    ≡ records code sheet (cancel - count) at count space (state m flag b g)
+turn code sheet cancel at count size space space' m m' flag b g g' a q e t c is =
     let rest = records code sheet (cancel - (count + 1)) in
     let c' = subst (λ xs. Came (served code xs (length space) m flag g) a space space' m' g') (part sheet at size) c in
-    ap (λ r. calling (frame code (record_bytes sheet at size) space) (replied r rest (at + 2 + size) count space' (state m' true b g'))) (sym is)
-    ∙ came code (record_bytes sheet at size) rest (at + 2 + size) count space space' m m' flag b g g' a on c'
-    ∙ ap (λ r. with_record r code sheet rest at count space (state m true b g)) t
-    ∙ tests code sheet cancel at count space (state m true b g) e
+    ap (λ r. calling (frame code (record_bytes sheet at size) space) (replied r rest (at + 2 + size) count space' (state m' flag b g'))) (sym is)
+    ∙ came code (record_bytes sheet at size) rest (at + 2 + size) count space space' m m' flag b g g' a c'
+    ∙ ap (λ r. with_record r code sheet rest at count space (state m flag b g)) t
+    ∙ tests code sheet cancel at count space (state m flag b g) e
 
 -- a run that is over makes no call more
 over_calls : (code : Code) (sheet : List ℕ) (n at count : ℕ) (space : List ℕ) (s : State) (why : Reason) → Some why ≡ over_at sheet at n → (records code sheet n at count space s).calls ≡ []
@@ -119,20 +119,20 @@ module _ {S : Type 0} (leaves : Leaving S) (code : Code) (sheet : List ℕ) wher
   pub led_refused : (cancel at count : ℕ) (space : List ℕ) (s : State) (y : S) (f : Fault) → None ≡ over_at sheet at (cancel - count) → Err f ≡ tested_record code (length space) sheet at → LedRest (cancel - count) at count space s y y
   led_refused cancel at count space s y f e t = subst (λ cs. Leads leaves y (made_through s cs) y) (sym (refused_calls code sheet cancel at count space s f e t)) refl
 
-  -- a frame that was carried out, and then the rest of the run
-  pub led_turn : (cancel at count size : ℕ) (space space' : List ℕ) (m m' : Meaning) (flag : Bool) (b : Option Bool) (g g' : Option Listed) (a : Answer) (q : Option Fault) (x y z : S)
+  -- a frame that was frame_taken out, and then the rest of the run
+  pub led_turn : (cancel at count size : ℕ) (space space' : List ℕ) (m m' : Meaning) (flag : Bool) (b : Aside) (g g' : Option Listed) (a : Answer) (q : Option Fault) (x y z : S)
       → None ≡ over_at sheet at (cancel - count) → Ok size ≡ tested_record code (length space) sheet at
-      → flag ≡ true → Came (served code (take (at + 2 + size - (at + 2)) (drop (at + 2) sheet)) (length space) m flag g) a space space' m' g' → a.fault ≡ q
+      → Came (served code (take (at + 2 + size - (at + 2)) (drop (at + 2) sheet)) (length space) m flag g) a space space' m' g' → a.fault ≡ q
       → Leads leaves x (served code (take (at + 2 + size - (at + 2)) (drop (at + 2) sheet)) (length space) m flag g).writes y
-      → Leads leaves y (made_through (state m' true b g') (replied q (records code sheet (cancel - (count + 1))) (at + 2 + size) count space' (state m' true b g')).calls) z
-      → LedRest (cancel - count) at count space (state m true b g) x z
-  led_turn cancel at count size space space' m m' flag b g g' a q x y z e t on c is l h =
+      → Leads leaves y (made_through (state m' flag b g') (replied q (records code sheet (cancel - (count + 1))) (at + 2 + size) count space' (state m' flag b g')).calls) z
+      → LedRest (cancel - count) at count space (state m flag b g) x z
+  led_turn cancel at count size space space' m m' flag b g g' a q x y z e t c is l h =
       let bytes = record_bytes sheet at size in
-      let s = state m true b g in
+      let s = state m flag b g in
       let one = frame code bytes space in
-      let calls = (replied q (records code sheet (cancel - (count + 1))) (at + 2 + size) count space' (state m' true b g')).calls in
-      let c' = subst (λ f. Came (served code bytes (length space) m f g) a space space' m' g') on (subst (λ xs. Came (served code xs (length space) m flag g) a space space' m' g') (part sheet at size) c) in
-      let l' = subst (λ f. Leads leaves x (served code bytes (length space) m f g).writes y) on (subst (λ xs. Leads leaves x (served code xs (length space) m flag g).writes y) (part sheet at size) l) in
-      let stepped : step s one ≡ state m' true b g' = (λ i. state (sym c'.means i) true b (sym c'.lists i)) in
+      let calls = (replied q (records code sheet (cancel - (count + 1))) (at + 2 + size) count space' (state m' flag b g')).calls in
+      let c' = subst (λ xs. Came (served code xs (length space) m flag g) a space space' m' g') (part sheet at size) c in
+      let l' = subst (λ xs. Leads leaves x (served code xs (length space) m flag g).writes y) (part sheet at size) l in
+      let stepped : step s one ≡ state m' flag b g' = (λ i. state (sym c'.means i) flag b (sym c'.lists i)) in
       let both : Leads leaves x (made_through s (one ∷ calls)) z = leads_on leaves x y z (made_by s one) (made_through (step s one) calls) l' (subst (λ u. Leads leaves y (made_through u calls) z) (sym stepped) h) in
-      subst (λ r. Leads leaves x (made_through s r.calls) z) (turn code sheet cancel at count size space space' m m' flag b g g' a q e t on c is) both
+      subst (λ r. Leads leaves x (made_through s r.calls) z) (turn code sheet cancel at count size space space' m m' flag b g g' a q e t c is) both

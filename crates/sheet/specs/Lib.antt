@@ -1,3 +1,4 @@
 pub mod Records
 pub mod Runs
 pub mod Laws
+pub mod Sheets

@@ -43,14 +43,14 @@ replied None rest behind count space s = rest behind (count + 1) space s
 replied (Some f) rest behind count space s = stop (Stopped f) count behind space s
 
 -- a frame is carried out, and its reply stands at the front of the reply space
-abbrev pub carried : Code → List ℕ → Rest → Rest
-carried code bytes rest behind count space s =
+abbrev pub frame_taken : Code → List ℕ → Rest → Rest
+frame_taken code bytes rest behind count space s =
     calling (frame code bytes space)
     (replied (at_frame s code bytes space).fault_met rest behind count (sets space 0 (at_frame s code bytes space).bytes) (step s (frame code bytes space)))
 
 -- a record that passes its tests, and is of this length, has its frame carried out; one that fails a test stops the run
 abbrev pub with_record : Result ℕ Fault → Code → List ℕ → Rest → Rest
-with_record (Ok size) code sheet rest at count space s = carried code (record_bytes sheet at size) rest (at + 2 + size) count space s
+with_record (Ok size) code sheet rest at count space s = frame_taken code (record_bytes sheet at size) rest (at + 2 + size) count space s
 with_record (Err f) code sheet rest at count space s = stop (Stopped f) count at space s
 
 -- no record is left
@@ -73,6 +73,10 @@ records code sheet (suc n) at count space s =
 -- a sheet begins with its version byte
 abbrev pub has_version : List ℕ → Bool
 has_version sheet = nat_le 1 (length sheet) && slice_index sheet 0 == 1
+
+-- and ends by 7 at its first byte where it does not
+abbrev pub without_version : RunEnd
+without_version = record { reason = Stopped (fault NoVersion 0); count = 0; next = 0 }
 
 -- a run between the opening and the ending of a window
 abbrev pub in_window : Run → Run

@@ -1,11 +1,12 @@
 // Runs of sheets.
-ghost use Rattle.std.specs.Prelude.{◌≡◌, ◌≤◌, Bool, true, length, None, Option};
+ghost use Rattle.std.specs.Prelude.{◌≡◌, ◌≤◌, length};
 ghost use Rattle.server.specs.Registered.{registered};
 ghost use Rattle.memory.specs.Leaving.{Leads};
-ghost use Rattle.server.specs.Histories.{state, shown, made_through};
-ghost use Rattle.history.specs.Latest.{KeptOn};
-ghost use Rattle.sheet.specs.Runs.{ended_by, over_at, records, has_version, sheet_run};
+ghost use Rattle.server.specs.Histories.{Aside, state_at, state_of, in_window_of, shown, made_through};
+ghost use Rattle.server.specs.Kept.{GoesOn};
+ghost use Rattle.sheet.specs.Runs.{ended_by, over_at, records, has_version, without_version, sheet_run};
 ghost use Rattle.sheet.specs.Laws.{IsHistory};
+ghost use Rattle.sheet.specs.Sheets.{RunBySheet};
 
 use crate::record::test_record;
 use frame::{Cause, Fault};
@@ -39,6 +40,17 @@ fn has_version(sheet: &[u8]) -> bool
     matches!(sheet, [1, ..])
 }
 
+// The end of a run of a sheet that has no version byte.
+fn no_version() -> RunEnd
+    ensures { result ≡ without_version }
+{
+    RunEnd {
+        reason: Reason::Stopped(Cause::NoVersion.at(0)),
+        count: 0,
+        next: 0,
+    }
+}
+
 // Why a run is over before the record at `at`, with so many frames still allowed: no record is left, or no frame is allowed.
 fn over_at(sheet: &[u8], at: usize, allowed: usize) -> Option<Reason>
     ensures { result ≡ over_at sheet.now at allowed }
@@ -63,11 +75,14 @@ fn run_records<M: WritableMemory>(
     settings: &Settings,
     registration: &mut Registration,
 ) -> RunEnd
-    requires begun { 1 ≤ length sheet.now }
-    requires on { settings.now.write_flag ≡ true }
-    ensures ends { (b : Option Bool) → ended_by result.reason result.count result.next reply.new (state (M.ReadableMemory.means memory.new) true b (registered registration.new)) ≡ (records code sheet.now cancel 1 0 reply.old (state (M.ReadableMemory.means memory.old) true b (registered registration.old))).end }
-    ensures led { let s = λ (b : Option Bool). state (M.means memory.old) true b (registered registration.old) in
-        (b : Option Bool) → Leads M.leaves memory.old (made_through (s b) (records code sheet.now cancel 1 0 reply.old (s b)).calls) memory.new }
+    requires { 1 ≤ length sheet.now }
+    ensures ends { (w : Aside) →
+        let s = state_at M.means registered memory.old settings.now registration.old w in
+        let s' = state_at M.means registered memory.new settings.now registration.new w in
+        ended_by result.reason result.count result.next reply.new s' ≡ (records code sheet.now cancel 1 0 reply.old s).end }
+    ensures led { (w : Aside) →
+        let s = state_at M.means registered memory.old settings.now registration.old w in
+        Leads M.leaves memory.old (made_through s (records code sheet.now cancel 1 0 reply.old s).calls) memory.new }
 {
     // A loop that breaks with its reason: each turn writes memory, reply and registration, the place goes on by the length that a record says,
     // and a record counts only once its reply tells no error.
@@ -108,10 +123,12 @@ fn run_in_window<M: WritableMemory>(
     registration: &mut Registration,
 ) -> RunEnd
     requires { 1 ≤ length sheet.now }
-    ensures ends { (b : Option Bool) → ended_by result.reason result.count result.next reply.new (state (M.ReadableMemory.means memory.new) true b (registered registration.new)) ≡ (records code sheet.now cancel 1 0 reply.old (state (M.ReadableMemory.means memory.old) true b (registered registration.old))).end }
+    ensures ends { let s = in_window_of M.means memory.old settings.old registration.old in
+        let s' = in_window_of M.means memory.new settings.old registration.new in
+        ended_by result.reason result.count result.next reply.new s' ≡ (records code sheet.now cancel 1 0 reply.old s).end }
+    ensures led { let s = in_window_of M.means memory.old settings.old registration.old in
+        Leads M.leaves memory.old (made_through s (records code sheet.now cancel 1 0 reply.old s).calls) memory.new }
     ensures flag { settings.new.write_flag ≡ settings.old.write_flag }
-    ensures led { let s = λ (b : Option Bool). state (M.means memory.old) true b (registered registration.old) in
-        (b : Option Bool) → Leads M.leaves memory.old (made_through (s b) (records code sheet.now cancel 1 0 reply.old (s b)).calls) memory.new }
 {
     let window = Window::open(settings);
     let settings = window.settings();
@@ -128,20 +145,24 @@ pub fn run_sheet<M: WritableMemory>(
     cancel: usize,
     reply: &mut [u8],
 ) -> RunEnd
-    ensures ends { result ≡ (sheet_run code sheet.now cancel reply.old (state (M.ReadableMemory.means server.old.memory) server.old.settings.write_flag None (registered server.old.registration))).end.result }
-    ensures space { reply.new ≡ (sheet_run code sheet.now cancel reply.old (state (M.ReadableMemory.means server.old.memory) server.old.settings.write_flag None (registered server.old.registration))).end.space }
+    ensures ends { result ≡ (sheet_run code sheet.now cancel reply.old (state_of M.means server.old)).end.result }
+    ensures space { reply.new ≡ (sheet_run code sheet.now cancel reply.old (state_of M.means server.old)).end.space }
     ensures flag { server.new.settings.write_flag ≡ server.old.settings.write_flag }
-    ensures led { let s = state (M.means server.old.memory) server.old.settings.write_flag None (registered server.old.registration) in
-        Leads M.leaves server.old.memory (made_through s (sheet_run code sheet.now cancel reply.old s).calls) server.new.memory }
-    ensures history { IsHistory (state (M.ReadableMemory.means server.old.memory) server.old.settings.write_flag None (registered server.old.registration)) reply.old (sheet_run code sheet.now cancel reply.old (state (M.ReadableMemory.means server.old.memory) server.old.settings.write_flag None (registered server.old.registration))).calls result reply.new (state (M.ReadableMemory.means server.new.memory) server.new.settings.write_flag None (registered server.new.registration)) }
-    ensures onward { KeptOn (state (M.ReadableMemory.means server.old.memory) server.old.settings.write_flag None (registered server.old.registration)) (sheet_run code sheet.now cancel reply.old (state (M.ReadableMemory.means server.old.memory) server.old.settings.write_flag None (registered server.old.registration))).calls (shown (state (M.ReadableMemory.means server.old.memory) server.old.settings.write_flag None (registered server.old.registration)) (sheet_run code sheet.now cancel reply.old (state (M.ReadableMemory.means server.old.memory) server.old.settings.write_flag None (registered server.old.registration))).calls) (state (M.ReadableMemory.means server.new.memory) server.new.settings.write_flag None (registered server.new.registration)) }
+    ensures led { let s = state_of M.means server.old in
+        let calls = (sheet_run code sheet.now cancel reply.old s).calls in
+        Leads M.leaves server.old.memory (made_through s calls) server.new.memory }
+    ensures history { let s = state_of M.means server.old in
+        let calls = (sheet_run code sheet.now cancel reply.old s).calls in
+        IsHistory s reply.old calls result reply.new (state_of M.means server.new) }
+    ensures sheet { let s = state_of M.means server.old in
+        let calls = (sheet_run code sheet.now cancel reply.old s).calls in
+        RunBySheet code sheet.now cancel (length reply.old) calls (shown s calls) result }
+    ensures carries { let s = state_of M.means server.old in
+        let calls = (sheet_run code sheet.now cancel reply.old s).calls in
+        GoesOn s calls (shown s calls) (state_of M.means server.new) }
 {
     if !has_version(sheet) {
-        return RunEnd {
-            reason: Reason::Stopped(Cause::NoVersion.at(0)),
-            count: 0,
-            next: 0,
-        };
+        return no_version();
     }
     run_in_window(
         code,

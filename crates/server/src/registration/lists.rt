@@ -21,7 +21,7 @@ const UNUSED: Access = Access {
 
 // Fills entries with the accesses of a list, from a place in it on.
 fn fill<C: WireCode>(entries: &mut [Access], list: &[u8], from: usize)
-    ensures { accesses entries.new ≡ sets (accesses entries.old) 0 (list_in (access_in C.WireCode.which) (length entries.old) (drop from list.now)) }
+    ensures { accesses entries.new ≡ sets (accesses entries.old) 0 (list_in (access_in C.which) (length entries.old) (drop from list.now)) }
 {
     let mut place = from;
     for entry in entries {
@@ -36,8 +36,8 @@ fn fill<C: WireCode>(entries: &mut [Access], list: &[u8], from: usize)
 // The registration of a list that was read: so many words, and then double words.
 fn listed<C: WireCode>(list: &[u8], words: usize, doubles: usize) -> Registration
     requires few { words + doubles ≤ 192 }
-    requires whole { (length (list_in (access_in C.WireCode.which) words list.now) ≡ words) × (length (list_in (access_in C.WireCode.which) doubles (drop (words * (4 * per_byte C.WireCode.which)) list.now)) ≡ doubles) }
-    ensures { registered result ≡ Some (list_in (access_in C.WireCode.which) words list.now, list_in (access_in C.WireCode.which) doubles (drop (words * (4 * per_byte C.WireCode.which)) list.now)) }
+    requires whole { (length (list_in (access_in C.which) words list.now) ≡ words) × (length (list_in (access_in C.which) doubles (drop (words * (4 * per_byte C.which)) list.now)) ≡ doubles) }
+    ensures { registered result ≡ Some (list_in (access_in C.which) words list.now, list_in (access_in C.which) doubles (drop (words * (4 * per_byte C.which)) list.now)) }
 {
     let mut entries = [UNUSED; 192];
     let count = words + doubles;

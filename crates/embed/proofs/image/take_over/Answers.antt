@@ -9,5 +9,5 @@ returns c =
     let l = all_put Image (λ s. s.units.ghost_name) (λ s. s.extents) (λ s. s.starts) (λ s. s.units.now) (λ s. s.fits) _ c.args.image.now c.take.new.memory c.take.ensures.left in
     record {
       name = l.place;
-      taken = record { told = c.take.ensures.told; units = l.units; kept = l.kept; means = sym (ap (stored Image c.take.new.memory.units.now) l.extents) ∙ c.take.ensures.means };
+      taken = record { tells = c.take.ensures.tells; units = l.units; kept = l.kept; means = sym (ap (stored Image c.take.new.memory.units.now) l.extents) ∙ c.take.ensures.means };
     }

@@ -1,9 +1,10 @@
-use Rattle.std.proofs.Common.{◌≡◌, ◌+◌, ◌≤◌, true, List, length, take, Some, vec_items, vec_len, vec_capacity}
+use Rattle.std.proofs.Common.{◌≡◌, ◌+◌, ◌≤◌, true, List, length, take, vec_items, vec_len, vec_capacity}
 use Rattle.std.specs.Slice.Iter.{iter_rest}
 use Rattle.server.specs.Registered.{registered}
-use Rattle.history.specs.Moves.{tellings, Left}
+use Rattle.history.specs.Moves.{showings, Left}
 use Rattle.memory.specs.Leaving.{Leads}
-use Rattle.server.specs.Histories.{Move, State, state, made_through, Reached}
+use Rattle.server.specs.Histories.{Move, State, made_through, Reached}
+use Rattle.history.proofs.Onward.{state, within}
 use Rattle.history.proofs.replaying.run_window.Given as goal
 
 abbrev pub invariant-loop-call : goal.invariant-loop-call
@@ -17,9 +18,9 @@ invariant-loop-call g l =
       whole : k + length (iter_rest l.calls) ≡ n + length (iter_rest e.calls);
       room : n + length (iter_rest e.calls) ≤ vec_capacity l.outcomes;
       left : (all : List Move) → Left all n (iter_rest e.calls) → Left all k (iter_rest l.calls);
-      reached : (s : State) (all : List Move) → Left all n (iter_rest e.calls) → Reached s (take n all) (tellings (vec_items e.outcomes)) (state (m.means e.memory) true (Some was) (registered e.registration))
-          → Reached s (take k all) (tellings (vec_items l.outcomes)) (state (m.means l.memory) true (Some was) (registered l.registration));
-      led : (s : State) (all : List Move) (from : g.row.M.Denot) → Left all n (iter_rest e.calls) → Reached s (take n all) (tellings (vec_items e.outcomes)) (state (m.means e.memory) true (Some was) (registered e.registration))
+      reached : (s : State) (all : List Move) → Left all n (iter_rest e.calls) → Reached s (take n all) (showings (vec_items e.outcomes)) (state (m.means e.memory) true (within was) (registered e.registration))
+          → Reached s (take k all) (showings (vec_items l.outcomes)) (state (m.means l.memory) true (within was) (registered l.registration));
+      led : (s : State) (all : List Move) (from : g.row.M.Denot) → Left all n (iter_rest e.calls) → Reached s (take n all) (showings (vec_items e.outcomes)) (state (m.means e.memory) true (within was) (registered e.registration))
           → Leads g.M.WritableMemory.leaves from (made_through s (take n all)) e.memory → Leads g.M.WritableMemory.leaves from (made_through s (take k all)) l.memory;
     }
 

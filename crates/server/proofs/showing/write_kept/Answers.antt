@@ -1,4 +1,4 @@
-use Rattle.std.proofs.Common.{◌≡◌, ◌+◌, ◌*◌, ap, ◌∙◌, arith}
+use Rattle.std.proofs.Common.{◌≡◌, ◌+◌, ◌*◌, refl, ap, ◌∙◌, arith}
 use Rattle.wire.specs.Numbers.{per_byte}
 use Rattle.server.specs.Points.{Values, bytes_of, value_of}
 use Rattle.server.specs.Registered.{all_of, device_and_number, listed_access}
@@ -16,9 +16,7 @@ loop-i-preserved g c =
     let a = listed_access o (x.from + l.i) in
     let here : device_and_number c.access-access.result ≡ a = c.access-access.ensures in
     let value : c.access_value-value.result ≡ value_of x.width V a.0 a.1 = c.access_value-value.ensures ∙ ap (λ b. value_of x.width V b.0 b.1) here in
-    let n = c.bytes.ensures.value in
-    let post = c.write_number-place.ensures in
-    let used : c.write_number-place.result ≡ k = post.used ∙ ap (λ b. b * per_byte code) n in (
-      rw (post.used, post.written) (listed_turn code x.width V l.out l.place _ _ a _ _ (kept_more (all_of o) _ x.from x.count l.i (omega arith) (omega arith)) value n ∙ l.invariant.0),
-      omega (arith, one_of x.count l.i k (omega arith), l.invariant.1, used),
+    let post = c.write_sized-place.ensures in (
+      rw (post.used, post.written) (listed_turn code x.width V l.out l.place _ _ a _ _ (kept_more (all_of o) _ x.from x.count l.i (omega arith) (omega arith)) value refl ∙ l.invariant.0),
+      omega (arith, one_of x.count l.i k (omega arith), l.invariant.1, post.used),
     )

@@ -1,4 +1,4 @@
-use Rattle.std.proofs.Common.{◌≡◌, ◌+◌, ◌-◌, ◌*◌, length, drop, sym, ap, ◌∙◌, arith}
+use Rattle.std.proofs.Common.{◌+◌, ◌-◌, ◌*◌, length, drop, sym, refl, ap, ◌∙◌, arith}
 use lib.Seq.{sets}
 use Rattle.wire.specs.Numbers.{per_byte}
 use Rattle.wire.specs.Series.{values_bytes}
@@ -20,12 +20,10 @@ loop-preserved g c =
     let r = access_in code in
     let got = in_goes_on r x.list.now x.count l.counter l.next (omega arith) _ (sym (sym q.is ∙ c.access_at.ensures.value)) in
     let rest = list_in r (x.count - (l.counter + 1)) (drop (l.next + q.used) x.list.now) in
-    let n = c.bytes.ensures.value in
-    let post = c.write_number-place.ensures in
-    let used : c.write_number-place.result ≡ k = post.used ∙ ap (λ b. b * per_byte code) n in (
-      rw (post.used, post.written) (listed_turn code x.width V l.out l.place _ _ (q.device, q.number) rest _ got c.access_value-value.ensures n ∙ l.invariant.0),
-      omega (arith, long_turn (q.device, q.number) rest _ k got, l.invariant.1, used),
-      omega (arith, one_of x.count l.counter k (omega arith), l.invariant.2, used),
+    let post = c.write_sized-place.ensures in (
+      rw (post.used, post.written) (listed_turn code x.width V l.out l.place _ _ (q.device, q.number) rest _ got c.access_value-value.ensures refl ∙ l.invariant.0),
+      omega (arith, long_turn (q.device, q.number) rest _ k got, l.invariant.1, post.used),
+      omega (arith, one_of x.count l.counter k (omega arith), l.invariant.2, post.used),
     )
 
 pub returns-in_default : goal.returns-in_default

@@ -9,7 +9,7 @@ use Rattle.server.specs.declared.points.Width.TheVariants.{Word, Double}
 use Rattle.server.specs.Points.{values_of}
 use Rattle.server.specs.Registered.{words_of, doubles_of, all_of}
 use Rattle.server.proofs.Shows.{length_shown}
-use Rattle.server.proofs.Telling.{told}
+use Rattle.server.proofs.Telling.{reply_told}
 use Rattle.server.proofs.reply.Reply.show_kept.Goals as goal
 
 pub returns-clause-tells : goal.returns-clause-tells
@@ -40,4 +40,4 @@ returns-clause-tells g c =
     let ended : c.write_kept-length.result ≡ at + (x.words * c.field_size.result + x.doubles * c.field_size-2.result) =
     omega (arith, two.end, one.end, ap (λ k. x.words * k) c.field_size.ensures, ap (λ k. x.doubles * k) c.field_size-2.ensures) in
     let done = c.answer.ensures in
-    told code x.self.now.header 0 _ at None (first ++ second) x.self.now.space.now c.write_head-at.new.out _ c.answer.result done.taken (done.length ∙ ended) done.fault size head.end head.written put
+    reply_told code x.self.now.header 0 _ at None (first ++ second) x.self.now.space.now c.write_head-at.new.out _ c.answer.result done.taken (done.length ∙ ended) done.fault size head.end head.written put

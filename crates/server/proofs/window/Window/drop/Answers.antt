@@ -3,4 +3,4 @@ use Rattle.server.proofs.Onward.{window_ended}
 use Rattle.server.proofs.window.Window.drop.Goals as goal
 
 pub returns-clause-carries : goal.returns-clause-carries
-returns-clause-carries c = λ m g. window_ended m g _ _ _ refl
+returns-clause-carries c = λ s. window_ended s _ _ _ refl

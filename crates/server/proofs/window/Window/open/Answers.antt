@@ -3,5 +3,5 @@ use Rattle.server.proofs.window.Window.open.Goals as goal
 
 pub returns-clause-carries : goal.returns-clause-carries
 returns-clause-carries c =
-    let s = c.switch-was.ensures in
-    λ m g. window_opened m g _ _ _ s.was s.flag
+    let e = c.switch-was.ensures in
+    λ s. window_opened s _ _ _ e.was e.flag

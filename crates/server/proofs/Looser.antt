@@ -14,7 +14,7 @@ use Rattle.request.specs.Limits.{points, within, all_open}
 use Rattle.request.specs.Requests.{Access, Setting, Asked, Command, ReadBits, ReadWords, WriteBits, WriteWords, RandomRead, Register, Monitor, RandomBits, RandomWrite, while_on, command_of}
 use Rattle.request.specs.Judging.{access, setting, bit_setting, walk}
 use Rattle.request.specs.Readings.{judged_by, request_in}
-use Rattle.history.specs.Asks.{largest}
+use Rattle.server.specs.Asks.{largest}
 
 -- a walk with the same fields, whose tests of points pass wherever the other's do
 data Looser {A : Type 0} : Walk A → Walk A → Type 0 where

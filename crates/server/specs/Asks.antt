@@ -5,7 +5,6 @@ use Rattle.memory.specs.Leaving.{Write}
 use Rattle.wire.specs.declared.code.Code.{Code}
 use Rattle.wire.specs.Numbers.{then}
 use Rattle.frame.specs.declared.fault.Fault.{Fault}
-use Rattle.frame.specs.declared.header.Header.{Header}
 use Rattle.frame.specs.Headers.{tested}
 use Rattle.request.specs.Requests.{Asked, read_bits, read_words, write_bits, write_words, random_read, register, monitor, random_bits, random_write}
 use Rattle.request.specs.Readings.{request_in}
@@ -13,7 +12,7 @@ use Rattle.server.specs.declared.points.Width.TheVariants.{Word, Double}
 use Rattle.server.specs.Points.{Values, bits, words, values_of}
 use Rattle.server.specs.Writes.{in_row, as_point, as_word, as_double, as_words, each}
 use Rattle.server.specs.Registered.{Listed}
-use Rattle.server.specs.Answers.{Data, in_bits, in_words, in_both, Answered, answer_bytes}
+use Rattle.server.specs.Answers.{Data, in_bits, in_words, in_both}
 use Rattle.server.specs.Histories.{Move, frame, setting, opening, ending, Shown, taken, written, window}
 
 -- the largest memory: every device has as many points as it may have, and all are open
@@ -36,13 +35,13 @@ writes_of monitor = []
 writes_of (random_bits ss) = each as_point ss
 writes_of (random_write ws ds) = each as_word ws ++ each as_double ds
 
-abbrev pub writes_in : Result Asked Fault → List Write
-writes_in (Ok a) = writes_of a
-writes_in (Err e) = []
+abbrev pub writes_if_read : Result Asked Fault → List Write
+writes_if_read (Ok a) = writes_of a
+writes_if_read (Err e) = []
 
 -- the points that a call gives values, with the values, if it is accepted
 abbrev pub sent : Move → List Write
-sent (frame code xs space) = writes_in (asked_in code xs)
+sent (frame code xs space) = writes_if_read (asked_in code xs)
 sent (setting d n v) = (d, n, v) ∷ []
 sent opening = []
 sent ending = []
@@ -59,39 +58,31 @@ list_of monitor = None
 list_of (random_bits ss) = None
 list_of (random_write ws ds) = None
 
-abbrev pub list_in : Result Asked Fault → Option Listed
-list_in (Ok a) = list_of a
-list_in (Err e) = None
+abbrev pub list_if_read : Result Asked Fault → Option Listed
+list_if_read (Ok a) = list_of a
+list_if_read (Err e) = None
 
 -- the list that a call registers, if it is accepted
 abbrev pub list_sent : Move → Option Listed
-list_sent (frame code xs space) = list_in (asked_in code xs)
+list_sent (frame code xs space) = list_if_read (asked_in code xs)
 list_sent (setting d n v) = None
 list_sent opening = None
 list_sent ending = None
 
 -- what a read shows of a memory with these values, by the forms
-abbrev pub shows : Asked → Values → Option Data
-shows (read_bits d i n) V = Some (in_bits (bits V d i n))
-shows (read_words d i n) V = Some (in_words (words V d i n))
-shows (write_bits d i vs) V = None
-shows (write_words d i vs) V = None
-shows (random_read ws ds) V = Some (in_both (values_of Word V ws) (values_of Double V ds))
-shows (register ws ds) V = None
-shows monitor V = None
-shows (random_bits ss) V = None
-shows (random_write ws ds) V = None
+abbrev pub data_shown : Asked → Values → Option Data
+data_shown (read_bits d i n) V = Some (in_bits (bits V d i n))
+data_shown (read_words d i n) V = Some (in_words (words V d i n))
+data_shown (write_bits d i vs) V = None
+data_shown (write_words d i vs) V = None
+data_shown (random_read ws ds) V = Some (in_both (values_of Word V ws) (values_of Double V ds))
+data_shown (register ws ds) V = None
+data_shown monitor V = None
+data_shown (random_bits ss) V = None
+data_shown (random_write ws ds) V = None
 
 -- a frame is accepted if it met no fault, which is the end code 0000; a setting if the memory did not refuse it
-abbrev pub accepted : Shown → Bool
-accepted (taken t n f space) = is_none f
-accepted (written r) = is_ok r
-accepted (window f) = false
-
-abbrev pub by_header : Code → Result Header Fault → Answered → List ℕ
-by_header code (Ok h) a = answer_bytes code h a
-by_header code (Err e) a = []
-
--- the reply that gives a frame this answer
-abbrev pub reply_to : Code → List ℕ → Answered → List ℕ
-reply_to code xs a = by_header code (tested code 4096 xs) a
+abbrev pub is_accepted : Shown → Bool
+is_accepted (taken t n f space) = is_none f
+is_accepted (written r) = is_ok r
+is_accepted (window f) = false
